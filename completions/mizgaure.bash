@@ -22,7 +22,7 @@ _mizgaure() {
       frames:-o | frames:--output | frames:--mcs | frames:--seed | frames:--aggregate) ;;
       bundle:-o | bundle:--output) ;;
       unbundle:-o | unbundle:--output) ;;
-      stages:--frame | stages:--csv | stages:--npz | stages:--mat | stages:--readmemh) ;;
+      stages:--radio | stages:--frame | stages:--csv | stages:--npz | stages:--mat | stages:--readmemh) ;;
       sweep:--bandwidth) words='20 40' ;;
       sweep:--estimate) words='perfect ls' ;;
       sweep:--radio | sweep:--mcs | sweep:--length | sweep:--antennas | sweep:--decay | sweep:--channel | sweep:--profile | sweep:--seed | sweep:--snr | sweep:--frames | sweep:--errors | sweep:--chunk | sweep:--detector | sweep:--processes | sweep:--scheduler | sweep:--part | sweep:-o | sweep:--output | sweep:--picture | sweep:--csv | sweep:--json) ;;
@@ -35,11 +35,11 @@ _mizgaure() {
       waveform:--guard) words='long short' ;;
       waveform:--stbc) words='0 1 2' ;;
       waveform:--rate) words='20 40 60 80 100 120 200' ;;
-      waveform:-o | waveform:--output | waveform:--antennas | waveform:--spread | waveform:--offset | waveform:--frequency | waveform:--snr | waveform:--gap | waveform:--dc | waveform:--dc-drift | waveform:--neighbour | waveform:--clock | waveform:--leakage | waveform:--filter | waveform:--lost | waveform:--seed) ;;
+      waveform:-o | waveform:--output | waveform:--antennas | waveform:--spread | waveform:--offset | waveform:--frequency | waveform:--snr | waveform:--gap | waveform:--dc | waveform:--dc-drift | waveform:--neighbour | waveform:--clock | waveform:--leakage | waveform:--filter | waveform:--gains | waveform:--error | waveform:--lost | waveform:--seed) ;;
       record:--datatype) words='cf32_be cf32_le cf64_be cf64_le ci16_be ci16_le ci32_be ci32_le ci8 cu8' ;;
-      record:--sample-rate | record:--channels | record:--variable | record:--shift | record:--channel | record:--processes | record:-o | record:--output | record:--gain | record:--legacy | record:--csv | record:--json) ;;
+      record:--sample-rate | record:--channels | record:--variable | record:--shift | record:--channel | record:--processes | record:--from | record:--to | record:--packets | record:-o | record:--output | record:--gain | record:--legacy | record:--csv | record:--json) ;;
       receive:--datatype) words='cf32_be cf32_le cf64_be cf64_le ci16_be ci16_le ci32_be ci32_le ci8 cu8' ;;
-      receive:--radio | receive:--sample-rate | receive:--channels | receive:--variable | receive:--shift | receive:--channel | receive:--processes | receive:-o | receive:--output | receive:--full-scale | receive:--sent | receive:--truth | receive:--csv | receive:--json) ;;
+      receive:--radio | receive:--sample-rate | receive:--channels | receive:--variable | receive:--shift | receive:--channel | receive:--processes | receive:--from | receive:--to | receive:--packets | receive:-o | receive:--output | receive:--full-scale | receive:--sent | receive:--truth | receive:--csv | receive:--json) ;;
       verdict:--datatype) words='cf32_be cf32_le cf64_be cf64_le ci16_be ci16_le ci32_be ci32_le ci8 cu8' ;;
       verdict:--sample-rate | verdict:--channels | verdict:--variable | verdict:--shift | verdict:--channel | verdict:--processes | verdict:--frequency | verdict:--reference-ppm | verdict:--csv | verdict:--json) ;;
       challenge:challenge) words='sensitivity adjacent nonadjacent judge' ;;
@@ -59,15 +59,15 @@ _mizgaure() {
             frames) words='--force --output --bandwidth --mcs --seed --aggregate --fcs --help' ;;
             bundle) words='--force --output --help' ;;
             unbundle) words='--force --output --help' ;;
-            stages) words='--force --frame --csv --npz --mat --readmemh --help' ;;
+            stages) words='--radio --force --frame --csv --npz --mat --readmemh --help' ;;
             sweep) words='--radio --force --bandwidth --mcs --length --antennas --decay --channel --profile --estimate --seed --snr --frames --errors --chunk --detector --soft --processes --scheduler --part --output --resume --picture --csv --json --help' ;;
             merge) words='--force --output --picture --csv --json --help' ;;
             picture) words='--radio --force --frame --answers --datatype --sample-rate --channels --variable --help' ;;
             report) words='--radio --force --output --theirs --sweep --frequency --reference-ppm --pictures --title --help' ;;
             zero-forcing) words='--help' ;;
-            waveform) words='--force --output --datatype --raw --guard --aggregated --stbc --greenfield --antennas --spread --offset --frequency --snr --gap --rate --dc --dc-drift --neighbour --nonadjacent --clock --leakage --filter --lost --seed --help' ;;
-            record) words='--force --datatype --sample-rate --channels --variable --shift --channel --processes --output --gain --legacy --annotate --csv --json --help' ;;
-            receive) words='--radio --force --datatype --sample-rate --channels --variable --shift --channel --processes --output --soft --full-scale --sent --truth --csv --json --help' ;;
+            waveform) words='--force --output --datatype --raw --guard --aggregated --stbc --greenfield --antennas --spread --offset --frequency --snr --gap --rate --dc --dc-drift --neighbour --nonadjacent --clock --leakage --filter --gains --error --lost --seed --help' ;;
+            record) words='--force --datatype --sample-rate --channels --variable --shift --channel --processes --from --to --packets --output --gain --legacy --annotate --csv --json --help' ;;
+            receive) words='--radio --force --datatype --sample-rate --channels --variable --shift --channel --processes --from --to --packets --output --soft --full-scale --sent --truth --csv --json --help' ;;
             verdict) words='--force --datatype --sample-rate --channels --variable --shift --channel --processes --frequency --reference-ppm --complete --csv --json --help' ;;
             challenge) words='--radio --force --bandwidth --mcs --packets --length --full-scale --seed --complete --csv --json --help' ;;
           esac

@@ -139,6 +139,7 @@ case $command in
       '1:file:_files' ;;
   stages)
     _arguments \
+      '--radio[the program radio]:program:_files' \
       '--force[overwrite a file that is there already]' \
       '--frame[this frame alone, from 0]:n:' \
       '--csv[write a row for each value in place of the text]:file:_files' \
@@ -239,6 +240,8 @@ case $command in
       '--clock[of the symbol clock, in parts per million]:ppm:' \
       '--leakage[let the carrier leak with so many dB of a packet'\''s overall power]:db:' \
       '--filter[weaken what is sent beyond the channel by so many dB]:db:' \
+      '--gains[give the subcarriers of these numbers these gains, straight in between, as -28\:-3,28\:3]:n:db,:' \
+      '--error[add Gaussian errors to the points, of so many dB beside them]:db:' \
       '--lost[lose samples in the middle of every packet]:samples:' \
       '--seed[of the random numbers]:seed:' \
       '--help[say more]' \
@@ -253,6 +256,9 @@ case $command in
       '--shift[where the packets'\'' middle is, from the recording'\''s middle]:hz:' \
       '--channel[receive this channel, by the frequency that the recording says]:n:' \
       '--processes[how many look for packets]:n:' \
+      '--from[packets from this time on, as lines say it]:seconds:' \
+      '--to[packets before this time]:seconds:' \
+      '--packets[no more than so many packets]:n:' \
       {-o,--output}'[the capture (HTCP) to write; - is standard output]:file:_files' \
       '--gain[what to multiply with before rounding, where the noise at an antenna has mean power 1\: a number, soft, which fits soft decisions]:gain:' \
       '--legacy[write the packets of clause 18 as a capture (LGCP)]:file:_files' \
@@ -272,6 +278,9 @@ case $command in
       '--shift[where the packets'\'' middle is, from the recording'\''s middle]:hz:' \
       '--channel[receive this channel, by the frequency that the recording says]:n:' \
       '--processes[how many look for packets]:n:' \
+      '--from[packets from this time on, as lines say it]:seconds:' \
+      '--to[packets before this time]:seconds:' \
+      '--packets[no more than so many packets]:n:' \
       {-o,--output}'[write the MPDUs with radiotap headers (pcap, or pcapng where it ends in .pcapng), as Wireshark reads them]:file:_files' \
       '--soft[decode packets in HT-mixed format by soft decisions, and say what they cost]' \
       '--full-scale[the power at an antenna whose samples have mean power 1; levels are in dBm then]:dbm:' \

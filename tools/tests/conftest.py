@@ -95,6 +95,7 @@ def here(radio, tmp_path, monkeypatch, capsysbinary):
 
     monkeypatch.chdir(tmp_path)
     monkeypatch.setenv("MIZGAURE_RADIO", radio.path)
+    monkeypatch.setattr("mizgaure.inside.library", None)  # test_inside.py looks at what the library says in its place
     return run
 
 

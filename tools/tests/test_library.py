@@ -1,5 +1,11 @@
 """The proved library over numpy: values that the standard and arithmetic say, the program's own texts, layouts and faults."""
 
+import ctypes
+import importlib.util
+import os
+import subprocess
+import sys
+
 import numpy as np
 import pytest
 from conftest import TOP, VECTORS
@@ -116,6 +122,23 @@ def test_clause_18():
         library.legacy_places(8)
 
 
+def test_a_text_goes_into_an_array_that_is_given():
+    capture = (TOP / "examples" / "z.htcp").read_bytes()
+    text, room = library.detect(capture), np.full(4096, 85, np.uint8)
+    said = library.detect(capture, out=room)
+    assert bytes(said) == text and np.shares_memory(said, room) and (room[len(text) :] == 85).all()
+    short = np.full(len(text) - 1, 85, np.uint8)
+    with pytest.raises(library.NoRoom):
+        library.detect(capture, out=short)
+    assert (short == 85).all()
+    for wrong in (np.empty(4096, np.int8), np.empty(8192, np.uint8)[::2], bytearray(4096)):
+        with pytest.raises(InputError):
+            library.rx(capture, out=wrong)
+    both = np.frombuffer(bytearray(capture) + bytes(4096), np.uint8)
+    with pytest.raises(InputError, match="shares memory"):
+        library.rx(both[: len(capture)], out=both[8:])
+
+
 def test_a_refusal_says_what_and_where():
     capture = bytearray((TOP / "examples" / "z.htcp").read_bytes())
     with pytest.raises(library.Refused) as caught:
@@ -171,6 +194,120 @@ def test_nothing_is_cut_or_written_past_its_array():
     assert not library.scramble(1, np.zeros(9, np.bool_)[::3]).all()
 
 
+RECEIVED = np.arange(48, dtype=np.int32).reshape(3, 2, 4, 2)
+
+
+def unaligned(array):
+    """The same numbers at an odd address."""
+    room = np.zeros(array.nbytes + 1, np.uint8)
+    made = room[1:].view(array.dtype).reshape(array.shape)
+    made[...] = array
+    assert not made.flags.aligned
+    return made
+
+
+@pytest.mark.parametrize("laid", [
+    unaligned, np.asfortranarray, lambda array: array.astype(">i4"), lambda array: array[::-1].copy()[::-1],
+    lambda array: np.repeat(array, 2, 0)[::2], lambda array: array.astype(np.int64), lambda array: array.tolist(),
+    lambda array: np.frombuffer(array.tobytes(), np.int32).reshape(array.shape),
+])
+def test_arrays_of_any_layout_have_the_same_hits(laid):
+    """What doesn't fit is copied, and read-only arrays are read where they are."""
+    channels = np.ones(2, library.CHANNEL)
+    wanted = library.detect_symbols(Rate(20, 27), channels, RECEIVED)
+    assert (library.detect_symbols(Rate(20, 27), channels, laid(RECEIVED)) == wanted).all()
+
+
+def test_arrays_that_fit_are_not_copied(monkeypatch):
+    """Their own addresses go to the library."""
+    channels, samples, out = np.ones(2, library.CHANNEL), np.ones((3, 2), library.RECEIVED), np.empty((3, 2), library.HIT)
+    given = []
+    monkeypatch.setattr(library, "_detect_symbols", lambda *words: given.extend(words) or 0)
+    for received in (samples, RECEIVED):
+        assert library.detect_symbols(Rate(20, 27), channels, received, out=out) is out
+        assert [given[2], given[4], given[6]] == [array.ctypes.data for array in (channels, received, out)]
+        given.clear()
+
+
+@pytest.mark.parametrize("received", [
+    RECEIVED.astype(float), RECEIVED.astype(complex), RECEIVED.astype(str), RECEIVED.astype(object), RECEIVED + 2**31, RECEIVED[..., 0],
+    np.zeros((3, 2), np.dtype([("samples", ">i4", (4, 2))])), np.zeros((3, 2), library.HIT),
+])
+def test_other_samples_are_refused_and_nothing_is_written(received):
+    out = np.full((3, 2, 24), 85, np.uint8)
+    with pytest.raises(InputError):
+        library.detect_symbols(Rate(20, 27), np.ones(2, library.CHANNEL), received, out=out.view(library.HIT)[..., 0])
+    assert (out == 85).all()
+
+
+@pytest.mark.parametrize("out", [
+    np.zeros(12, np.uint8), np.zeros(13, np.bool_), np.zeros((1, 12), np.bool_), np.zeros(24, np.bool_)[::2], [False] * 12,
+    np.frombuffer(bytes(12), np.bool_), None,
+])
+def test_an_out_is_of_its_type_and_shape_or_refused(out):
+    bits = np.ones(6, np.bool_)
+    if out is None:  # the one that fits
+        out = np.zeros(12, np.bool_)
+        assert library.encode(0, bits, out=out) is out and out.any()
+        return
+    with pytest.raises(InputError):
+        library.encode(0, bits, out=out)
+    assert not np.any(out)
+
+
+def test_an_unaligned_out_is_refused():
+    out = unaligned(np.zeros((2, 2, 2, 2), np.int32))
+    with pytest.raises(InputError, match="aligned"):
+        library.weigh_symbols(Rate(20, 9), np.ones(2, library.CHANNEL), RECEIVED[:2], out=out)
+    assert not out.any()
+
+
+@pytest.mark.parametrize("call, fault", [
+    (lambda out: library.detect_symbols(Rate(20, 0), np.ones(4, library.CHANNEL), RECEIVED, out=out((3, 2), library.HIT)), library.BadLength),
+    (lambda out: library.weigh_symbols(Rate(20, 0), np.ones(4, library.CHANNEL), RECEIVED, out=out((3, 2, 1, 1), np.int32)), library.BadLength),
+    (lambda out: library.scramble(0, np.ones(9, np.bool_), out=out(9, np.bool_)), library.NoSeed),
+    (lambda out: library.decode(4, np.zeros(12, np.uint8), 6, out=out(6, np.bool_)), library.NoPattern),
+    (lambda out: library.decode(0, np.zeros(11, np.uint8), 6, out=out(6, np.bool_)), library.BadLength),
+    (lambda out: library.soft_decode(0, np.zeros(13, np.int32), 6, out=out(6, np.bool_)), library.BadLength),
+])
+def test_a_fault_leaves_its_out_as_it_was(call, fault):
+    made = []
+
+    def out(shape, dtype):
+        made.append(np.ones(shape, dtype))
+        return made[0]
+
+    with pytest.raises(fault):
+        call(out)
+    assert (made[0] == np.ones_like(made[0])).all()
+
+
+def test_the_declarations_are_those_of_the_header():
+    """Each call of the header is declared here, with the types that it has there."""
+    source = importlib.util.spec_from_file_location("edges", TOP / "library" / "tests" / "edges.py")
+    edges = importlib.util.module_from_spec(source)
+    source.loader.exec_module(edges)
+    types = {f"uint{bits}_t": getattr(ctypes, f"c_uint{bits}") for bits in (8, 16, 32, 64)} | {"size_t": ctypes.c_size_t}
+    for name, parameters in edges.calls((TOP / "library" / "mizgaure.h").read_text()):
+        call = getattr(library._library, f"mizgaure_{name}")
+        wanted = [ctypes.c_void_p if parameter.is_pointer else types[parameter.type] for parameter in parameters]
+        assert list(call.argtypes or ()) == wanted and call.restype is ctypes.c_uint32, name
+
+
+def test_the_layouts_are_those_of_the_header():
+    """Sizes and places that mizgaure.h says."""
+    assert [dtype.itemsize for dtype in (library.TAP, library.CHANNEL, library.RECEIVED, library.HIT)] == [4, 32, 32, 24]
+    assert library.CHANNEL.fields["above"][1] == 8 and library.HIT.fields["low"][1] == 8 and library.HIT.fields["high"][1] == 16
+
+
+@pytest.mark.parametrize("given, said", [("/nowhere/libmizgaure.so.0", "there is no proved library"), ("libm.so.6", "there is no proved library")])
+def test_without_the_library_the_import_says_so(given, said):
+    words = [sys.executable, "-c", "from mizgaure import library"]
+    variables = {**os.environ, "MIZGAURE_LIBRARY": given, "PYTHONPATH": str(TOP / "tools" / "src")}
+    run = subprocess.run(words, env=variables, capture_output=True, text=True, check=False)
+    assert run.returncode == 1 and "ImportError" in run.stderr and said in run.stderr
+
+
 def test_the_version_is_that_of_the_header():
     header = (TOP / "library" / "mizgaure.h").read_text()
     assert f"#define MIZGAURE_VERSION {library.version()}\n" in header
@@ -181,3 +318,42 @@ def test_the_version_is_that_of_the_header():
 def _names(header):
     body = header.partition("enum mizgaure_fault {")[2].partition("};")[0]
     return [line.split()[0].removeprefix("MIZGAURE_") for line in body.splitlines() if "=" in line]
+
+
+def test_a_certificate_holds_or_says_what_is_wrong():
+    channel, received = np.zeros((), library.CHANNEL), np.zeros((4, 2), np.int32)
+    channel["diagonal"][0], received[0] = 10, (3, -4)  # the job of docs/CERTIFICATES.md
+    hit, marks = library.certify_job(Rate(20, 0), channel, received)
+    assert hit["low"] == 65 and marks.tolist() == [True, False, True]
+    library.check_job(Rate(20, 0), channel, received, hit, marks)
+    with pytest.raises(library.NotCertified) as short:
+        library.check_job(Rate(20, 0), channel, received, hit, marks[:2])
+    assert (short.value.kind, short.value.at) == ("Short", 2)
+    far = np.full((4, 2), -(2**31), np.int32)
+    hit, marks = library.certify_job(Rate(40, 23), np.zeros((), library.CHANNEL), far)
+    assert marks.size > 256 and marks.all() and library.distances(hit) == [3 * 2**63]
+    library.check_job(Rate(40, 23), np.zeros((), library.CHANNEL), far, hit, marks)
+
+
+def test_encoders_and_frames_of_clause_18():
+    first, second = library.split(Rate(40, 31), np.array([0, 1, 1, 0], np.bool_))
+    assert first.tolist() == [False, True] and second.tolist() == [True, False]
+    assert library.join(Rate(40, 31), first, second).tolist() == [False, True, True, False]
+    assert library.split(Rate(20, 0), first)[1].size == 0
+    with pytest.raises(library.BadLength):
+        library.split(Rate(40, 31), np.zeros(3, np.bool_))
+    points = np.delete(library.legacy_transmit(0, 127, b"\xa5"), (5, 19, 32, 46), axis=1)
+    labels = (points[..., 0] == 1).astype(np.uint8)
+    assert library.legacy_decode_frame(0, labels, 1) == (b"\xa5", 0)
+
+
+def test_files_of_the_commands():
+    frames = bytes.fromhex("4854545801 0001 00000001 7fa5")
+    symbols = library.tx(frames)
+    assert symbols[:13] == bytes.fromhex("4854535901 0001 00000001 ff00") and len(symbols) == 235  # docs/FORMATS.md
+    capture = library.channel(symbols)
+    assert library.upgrade(capture)[:5] == b"HTCP\x02"
+    assert library.rx(library.upgrade(capture)) == library.rx(capture)
+    bundle = b"HTMB\x01\x01" + len(capture).to_bytes(4, "big") + capture
+    assert library.many(bundle) == b"capture 0\n" + library.rx(capture)
+    assert library.legacy_channel(b"LGTX\x01\x00\x00") == b"LGCP\x01\x00\x00"

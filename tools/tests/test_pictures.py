@@ -144,3 +144,18 @@ def test_streams_can_be_told_apart_in_grey():
     """Streams differ in marker and kind of line, not in colour alone."""
     styles = pictures.STREAM_STYLES
     assert len({marker for _, marker, _ in styles}) == len({line for _, _, line in styles}) == 4
+
+
+def test_the_spectrum_of_noise_has_its_density():
+    """Noise of mean power -40 dB of full scale in 20 MHz, round a carrier that is known and round none."""
+    pytest.importorskip("matplotlib")
+    from air import octets_in, recording_of
+    from mizgaure.air.pictures import spectrum
+    from mizgaure.air.recording import Layout
+
+    parts = np.random.default_rng(1).standard_normal((2, 1, 1 << 17)) * 0.01 / np.sqrt(2)
+    for carrier, label in ((5.18e9, "frequency (MHz)"), (None, "frequency from the middle (MHz)")):
+        panel = spectrum(recording_of(octets_in(parts[0] + 1j * parts[1]), Layout("cf32_le", 20e6, 1), carrier), 0).axes[0]
+        line = panel.lines[0]
+        assert 10 * np.log10(np.mean(10 ** (line.get_ydata() / 10))) == pytest.approx(-40 - 10 * np.log10(20e6), abs=0.1)
+        assert line.get_xdata()[256] == (5180 if carrier else 0) and panel.get_xlabel() == label and panel.get_ylabel() == "power density (dB of full scale per Hz)"

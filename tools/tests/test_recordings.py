@@ -16,9 +16,10 @@ import numpy as np
 import pytest
 from conftest import TOP, VECTORS
 
-from mizgaure import Rate, SentFrame, capture, read_htsy, write_htsy, write_httx
-from mizgaure.air import standard
+from mizgaure import Rate, SentFrame, capture, read_htcp, read_htsy, write_htsy, write_httx
+from mizgaure.air import pieces, standard
 from mizgaure.air.legacy import LegacySpool
+from mizgaure.air.part import Part
 from mizgaure.air.placing import Look
 from mizgaure.air.record import Spool, packets_in
 from mizgaure.air.recording import Joined, Layout, Piped, open_recording
@@ -113,6 +114,69 @@ def test_every_form_gives_the_same_capture(here, sent, tmp_path):
         assert done.returncode == 0 and done.stderr == b"", (words, done.stderr)
         assert (tmp_path / f"{number}.htcp").read_bytes() == expected, words
     assert number >= 15
+
+
+def without_numbers(lines):
+    """Lines of packets but for their own numbers and those of their frames."""
+    return [re.sub(r"^packet \d+|frame \d+", "", line) for line in lines]
+
+
+@pytest.mark.parametrize("begin, end, count, first", [(8, None, None, 0), (None, 8, None, 0), (None, None, 3, 0), (2, 9, 5, 0), (9, 11, None, 10**5)])
+@pytest.mark.parametrize("rate", [20e6, 25e6])
+def test_a_part_is_received_as_of_the_whole(here, tmp_path, monkeypatch, rate, begin, end, count, first):
+    """A packet every 1.4 ms, in pieces of 1.6 ms; times are those of lines, also where the first sample has another number."""
+    monkeypatch.setattr(pieces, "STEP", 1 << 15)
+    monkeypatch.setattr(pieces, "LEAST_STEP", 1 << 15)
+    monkeypatch.setattr(pieces, "BEHIND", 1 << 14)
+    random = np.random.default_rng(3)
+    write_htsy(tmp_path / "sent.htsy", [random_symbols(Rate(20, n % 8), 60 + 10 * n, random) for n in range(12)])
+    assert here("waveform", "sent.htsy", "-o", "air", "--gap", 1300, "--offset", 8).returncode == 0
+    octets = np.fromfile(tmp_path / "air.sigmf-data", "<c8")
+    if rate != 20e6:
+        octets = pytest.importorskip("scipy.signal").resample_poly(octets, 5, 4).astype("<c8")
+    named = ["raw", "--datatype", "cf32_le", "--sample-rate", str(rate)]
+    octets.tofile(tmp_path / "raw")
+    if first:
+        meta = meta_of(Layout("cf32_le", rate))
+        meta["captures"][0]["core:sample_start"] = meta["global"]["core:offset"] = first
+        (tmp_path / "moved.sigmf-meta").write_text(json.dumps(meta))
+        octets.tofile(tmp_path / "moved.sigmf-data")
+        named = ["moved"]
+    whole = here("record", *named, "-o", "whole.htcp").stdout.decode().splitlines()[:-1]
+    frames = list(read_htcp(tmp_path / "whole.htcp"))
+    assert len(whole) == 12
+    times = [re.search(r"([0-9.]+) s:", line).group(1) for line in whole]
+    words = [word for name, number in (("--from", begin), ("--to", end)) if number is not None for word in (name, times[number])]
+    words += [] if count is None else ["--packets", count]
+    chosen = slice(begin or 0, end if count is None else (begin or 0) + count)
+    pipe = [] if first else [(["-", *named[1:]], (tmp_path / "raw").read_bytes())]
+    for number, (part, given) in enumerate([(named, b""), ([*named, "--processes", "2"], b""), *pipe]):
+        done = here("record", *part, *words, "-o", f"{number}.htcp", given=given)
+        lines = done.stdout.decode().splitlines()[:-1]
+        assert done.stderr == b"" and without_numbers(lines) == without_numbers(whole[chosen])
+        assert [line.split()[1] for line in lines] == [str(n) for n in range(len(lines))]
+        made = list(read_htcp(tmp_path / f"{number}.htcp"))
+        assert len(made) == len(frames[chosen])
+        for one, other in zip(made, frames[chosen]):
+            assert (one.samples == other.samples).all() and (one.triangles == other.triangles).all()
+
+
+def test_a_part_is_that_of_the_lines(here, sent):
+    """A line's time, as it stands there, begins a part with its packet, and ends one in front of it; both commands have the words."""
+    second = re.search(rb"packet 1 at sample \d+, (0\.\d{6}) s", here("record", "air", "-o", "air.htcp").stdout).group(1).decode()
+    for words, count in ((["--from", second], 1), (["--to", second], 1), (["--packets", "1"], 1), (["--to", "0"], None), (["--from", "9"], None)):
+        done = here("receive", "air", *words)
+        if count is None:
+            assert done.returncode == 2 and done.stdout == b"" and done.stderr.count(b"\n") == 1
+        else:
+            assert done.stdout.decode().splitlines()[-1].startswith(f"{count} packet: {count} received")
+    done = here("receive", "air", "--from", second, "--to", f"{float(second) + 1e-6:.6f}")
+    assert done.stdout.startswith(b"packet 0 at sample") and f", {second} s: ".encode() in done.stdout
+    recording = air.recording_of(bytes(8000), Layout("cf32_le", 20e6))  # samples 409 and 411 are at 20.45 and 20.55 microseconds
+    assert [Part(begin=0.000021).is_in_front(recording, sample) for sample in (409, 411)] == [True, False]
+    assert [Part(end=0.000021).is_behind(recording, sample) for sample in (409, 411)] == [False, True]
+    done = here("record", "air", "--to", "0.000010", "-o", "none.htcp")
+    assert done.returncode == 0 and b"no packet was found in 220 samples, 0.000011 s" in done.stdout
 
 
 FIELDS = [  # what is changed in the metadata: of the whole, of the first capture; and what comes of it

@@ -11,7 +11,7 @@ from conftest import TOP, VECTORS
 import mizgaure
 from mizgaure import read_htsy, read_httx
 from mizgaure.packets import aggregate, take_apart, with_fcs
-from mizgaure.tracing import program_facts
+from mizgaure.tracing import program_facts, recorded
 
 MPDUS = ["88010000020000000001020000000002020000000003100000006869", "b400000002000000000102:00:00:00:00:02"]
 
@@ -160,6 +160,7 @@ def test_a_report_is_one_page_that_needs_no_net(here, tmp_path):
     page.feed(made)
     page.close()
     assert page.open == [] and page.images == 4 and all(source.startswith("data:image/png;base64,") for source in page.sources)
+    assert '<span class="open">EVM of 1 frame at' in made  # one frame has no verdict
     assert "url(" not in made and "<script" not in made and "@import" not in made
     assert "Ours & theirs" in page.text and "<&.htcp" in page.text and "14 same, 1 tie, 41 worse" in page.text and "tested and not proved" in page.text
     assert here("report", "<&.htcp", "-o", "made.html").returncode == 2
@@ -215,6 +216,9 @@ def test_a_report_that_can_be_traced(here, tmp_path, radio):
     for test in ("spectral mask", "spectral flatness", "centre frequency", "symbol clock", "centre frequency leakage", "constellation error"):
         assert test in page.text
     assert "no verdict: 1 of 20 frames" in page.text and "signature" in page.text and "noise of a subcarrier" in page.text
+    assert "0 of 6 pass; 6 without a verdict (spectral mask, spectral flatness, " in page.text
+    assert "wrong by at most 1 ppm" in page.text and "Figure 8: error rates" in page.text and "from memory of the standard" in page.text
+    assert "device under test" in page.text and page.text.index("spectral mask") < page.text.index("Frames")  # what is signed comes first
     assert '<span class="open">' in (tmp_path / "it.html").read_text()
     assert here("report", TOP / "examples" / "z.htcp", "-o", "other.html", "--reference-ppm", 1).stderr == (
         b"mizgaure: --frequency and --reference-ppm are said of recordings, and there is none\n")
@@ -226,3 +230,18 @@ def test_what_the_program_says_of_itself(tmp_path):
     told.chmod(0o755)
     assert dict(program_facts(str(told))) == {"program": str(told), "SHA-256 of the program": hashlib.sha256(told.read_bytes()).hexdigest(),
                                               "version and toolchain of the program": "mizgaure 1234, kit 9"}
+    behind = tmp_path / "crates" / "ht_radio" / "out" / "ht_radio"
+    behind.parent.mkdir(parents=True)
+    behind.write_bytes(b"the program")
+    assert dict(program_facts(str(told)))["SHA-256 of crates/ht_radio/out/ht_radio"] == hashlib.sha256(b"the program").hexdigest()
+    told.write_text("#!/bin/sh\nexit 2\n")
+    assert dict(program_facts(str(told)))["version and toolchain of the program"] == "not known: this program doesn't say it, as the script radio does"
+
+
+def test_what_a_recording_says_of_itself(tmp_path):
+    """Who made it, with what and when, where its metadata have that; what isn't text is passed over."""
+    meta = {"global": {"core:datatype": "cf32_le", "core:version": "1.0.0", "core:author": "A. Tester", "core:hw": "a receiver and a cable", "core:recorder": 7},
+            "captures": [{"core:sample_start": 0, "core:datetime": "2026-01-31T12:00:00Z"}, {"core:sample_start": 9}]}
+    (tmp_path / "it.sigmf-meta").write_text(json.dumps(meta))
+    assert recorded(str(tmp_path / "it.sigmf-meta")) == [("recorded by", "A. Tester"), ("hardware", "a receiver and a cable"), ("taken", "2026-01-31T12:00:00Z")]
+    assert recorded(str(tmp_path / "none.sigmf-meta")) == []

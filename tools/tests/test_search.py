@@ -9,7 +9,7 @@ import pytest
 from conftest import TOP
 
 from mizgaure import Rate, capture, cli, write_htsy
-from mizgaure.air import pieces, receive, synchronise
+from mizgaure.air import pieces, receive, synchronise, track
 from mizgaure.air.channels import LOWER, UPPER, response
 from mizgaure.air.pieces import BLOCK, FRONT, Piece, level_of, pieces_of, powers_of, step_of
 from mizgaure.air.receive import MISTAKE, Packet
@@ -18,6 +18,7 @@ from mizgaure.air.recording import Layout
 from mizgaure.air.search import COLLISION, apart, packets_of
 from mizgaure.air.signal import HtSignal
 from mizgaure.air.simulate import LEVEL, Scene
+from mizgaure.air.track import Step
 from mizgaure.air.waveform import Clock, packet
 from mizgaure.distances import zero_forcing
 from mizgaure.sweep import random_symbols
@@ -72,10 +73,10 @@ def test_a_recording_without_a_level_keeps_its_samples():
 
 # packets that overlap
 
-def overlapping(above, middle=0, over=1, seed=0):
-    """The packets found where another one, so many dB above a first one, begins in the middle of that, and where it begins."""
+def overlapping(above, middle=0, over=1, seed=0, late=None):
+    """The packets found where another one, so many dB above a first one, begins in the middle of that or so much later, and where it begins."""
     (_, first), (_, second) = (packet(frame, Clock(over, middle=place), 0.3) for frame, place in zip(symbols_of((0,), 400, 2, seed), (-32 if over == 2 else 0, middle)))
-    at, front = first.shape[1] // 2, 400 * over
+    at, front = first.shape[1] // 2 if late is None else late, 400 * over
     whole = np.zeros((1, front + at + second.shape[1] + front), complex)
     whole[:, front : front + first.shape[1]] = first
     whole[:, front + at : front + at + second.shape[1]] += 10 ** (above / 20) * second * np.exp(0.025j / over * np.arange(second.shape[1]))
@@ -93,6 +94,23 @@ def test_a_packet_that_begins_while_another_one_lasts(above, middle, over):
         assert found[0].signal.length == 400 and found[1].frame is None and "no header" in str(line_of(found[1], 1, air.heard([np.zeros((1, 1))]), None, COLLISION))
 
 
+@pytest.mark.parametrize("microseconds", [12, 16, 20, 26, 30, 36, 44, 52, 60])
+def test_a_packet_that_begins_in_the_first_microseconds_of_another_one(microseconds):
+    """It has its line, where it begins, also while the headers and the HT-LTFs of the first one last."""
+    for above in (0, 3) if microseconds == 12 else (0, 3, 6):
+        for seed in range(3):
+            found, at = overlapping(above, seed=seed, late=20 * microseconds)
+            told = [one for one in found[1:] if abs(one.sample - at) <= 4]
+            assert len(told) == 1 and (found[0].left_out is not None or told[0].left_out == COLLISION)
+
+
+def test_many_antennas_that_hear_the_same_make_no_collision():
+    """What 16 antennas hear of one stream isn't independent."""
+    for spread in (0.0, 150.0):
+        found = found_in(symbols_of((0,), 200, 6), Scene(snr=30.0, offset=13.0, spread=spread), 16)
+        assert [one.left_out for one in found] == [None] * 6
+
+
 def test_what_is_no_collision():
     """Packets by themselves, with their own second training, and one in the other half."""
     for schemes, antennas, spread in (((0, 3, 7), 1, 0.0), ((8, 15), 2, 50.0), ((16, 31), 4, 0.0)):
@@ -106,7 +124,7 @@ def test_a_packet_of_the_next_piece_that_begins_while_another_one_lasts():
     """What was received of it is left out; its own end hides nothing."""
     signal = HtSignal(0, False, 400)
     first, second, third = (Packet(begin, end, 0.0, -20.0, legacy=None, signal=signal) for begin, end in ((0, 9000), (5000, 14000), (9100, 18000)))
-    early, other = Packet(300, 1500, 0.0, -20.0, signal=signal), Packet(5000, 14000, 0.0, -20.0, signal=signal, middles=(UPPER,))
+    early, other = Packet(100, 1500, 0.0, -20.0, signal=signal), Packet(5000, 14000, 0.0, -20.0, signal=signal, middles=(UPPER,))
     found = list(apart([[first], [early, second, third]], 1))
     assert [(one.sample, one.left_out) for one in found] == [(0, None), (5000, COLLISION), (9100, None)] and found[1].signal is None
     assert [one.sample for one in apart([[first], [other]], 2)] == [0]  # 20 MHz in the middle hide both halves
@@ -166,7 +184,7 @@ def test_both_halves_are_channels(late, level):
 
 # noise
 
-# The ratios on a subcarrier at which one packet of 1,000 octets at MCS 0 in ten is wrong, as docs/RECORDINGS.md has them.
+# The ratios on a subcarrier at which one packet of 1,000 octets at MCS 0 in ten is wrong.
 TENTH = {1: 3.0, 2: 0.0, 4: -2.6, 8: -5.3}
 
 
@@ -293,6 +311,22 @@ def test_a_step_within_a_packet(lost, said):
     for one in told:
         symbols = one.frame.rate.symbols(800)
         assert one.step.symbol == pytest.approx(2 * symbols / 3 - 3, abs=2 + symbols / 10)
+
+
+@pytest.mark.parametrize("symbols, place", [(7, 2), (7, 4), (30, 2), (30, 27), (200, 100)])
+@pytest.mark.parametrize("samples", [-3, -1, 1, 2])
+def test_a_step_in_a_few_symbols(symbols, place, samples):
+    """Pilots at 20 MHz and 30 dB that stand so many samples late behind a symbol, in which they agree with nothing."""
+    random = np.random.default_rng(symbols + place)
+    turns, times = np.array([-21, -7, 7, 21]) / 64, 80.0 * np.arange(symbols) + 400
+    late = np.where(np.arange(symbols) > place, samples, 0)
+    pilots = 1000 * np.exp(2j * np.pi * np.outer(late, turns) + 2j * np.pi * random.random((symbols, 1)))
+    pilots += 32 * (random.standard_normal((2, symbols, 4)) * [[[1]], [[1j]]]).sum(axis=0)
+    pilots[place] = random.permutation(pilots[place]) * [1, -1, 1, -1]
+    assert track.step_of(pilots, np.full((symbols, 4), 1000.0), turns, times, 0.0) == Step(place, samples)
+    still = pilots * np.exp(-2j * np.pi * np.outer(late, turns))
+    still[place] = still[place - 1]
+    assert track.step_of(still, np.full((symbols, 4), 1000.0), turns, times, 0.0) is None
 
 
 def test_the_script_of_the_page():

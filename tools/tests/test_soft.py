@@ -138,12 +138,12 @@ def medians(frames):
 
 
 def test_the_gain_for_weights():
-    """Typical diagonals are 40, whatever the scale; no part leaves its field; a channel of zeros has no typical one."""
+    """Typical diagonals are 80, whatever the scale; no part leaves its field; a channel of zeros has no typical one."""
     rate, random = Rate(20, 27), np.random.default_rng(4)
     channel, received = (random.standard_normal((*shape, 2)) @ [1, 1j] for shape in ((56, 4, 4), (rate.symbols(9), 56, 4)))
     frames = [MeasuredFrame(20, 27, 9, scale * channel, scale * received, erased) for scale, erased in ((1e-6, None), (1.0, [1, 7]), (1e6, None))]
     frames.append(MeasuredFrame(20, 27, 9, channel[:, :2], received[..., :2]))  # two of four diagonals are 0
-    assert medians(capture(frames, "soft").frames) == pytest.approx([40] * 4, abs=1)
+    assert medians(capture(frames, "soft").frames) == pytest.approx([80] * 4, abs=1)
     lopsided = MeasuredFrame(20, 27, 9, channel * np.where(np.arange(56) == 20, 1e6, 1)[:, None, None], received)
     silent = MeasuredFrame(20, 27, 9, 0 * channel, 0 * received)
     assert (capture([lopsided, silent], "soft").gains == capture([lopsided, silent]).gains).all()
@@ -172,7 +172,7 @@ def test_weights_of_a_recording_lose_fewer_packets_than_signs(soft):
     hard, cut, weighed = (sum(answer.octets != frame.octets for answer, frame in zip(answers, sent))
                           for answers in (soft.rx(largest), soft.soft(largest), soft.soft(fitting)))
     assert 3 * weighed < min(hard, cut) and hard >= 6, (hard, cut, weighed)
-    assert medians(read_htcp(io.BytesIO(fitting))) == pytest.approx([40] * 24, abs=1)
+    assert medians(read_htcp(io.BytesIO(fitting))) == pytest.approx([80] * 24, abs=1)
 
 
 def test_distances_of_a_recording_are_in_units_of_noise():
@@ -201,7 +201,7 @@ def test_soft_decisions_by_the_commands(here, soft, tmp_path, monkeypatch):
     assert by_signs == [re.sub(r"; cost \d+;", ";", line) for line in by_weights] != by_weights
     assert here("record", "air", "-o", "air.htcp").returncode == 0
     answers = soft.soft(tmp_path / "air.htcp")
-    assert [answer.octets for answer in answers] == octets and medians(read_htcp(tmp_path / "air.htcp")) == pytest.approx([40, 40], abs=1)
+    assert [answer.octets for answer in answers] == octets and medians(read_htcp(tmp_path / "air.htcp")) == pytest.approx([80, 80], abs=1)
     assert [json.loads(line)["cost"] for line in (tmp_path / "air.jsonl").read_text().splitlines()] == [answer.cost for answer in answers]
     assert [f"; cost {answer.cost}; MPDU" in line for answer, line in zip(answers, by_weights)] == [True, True]
     for gain in ("largest", 30):

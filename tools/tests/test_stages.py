@@ -12,17 +12,12 @@ import numpy as np
 import pytest
 from conftest import TOP, VECTORS
 
-from mizgaure import Rate, read_answers, read_htsy
+from mizgaure import Rate, read_answers, read_htsy, stages
 from mizgaure.chain import encode, kept_places, steps, symbol_landing
 from mizgaure.rates import labels_of
-from mizgaure.stage_files import BITS, LABELS, LIBRARY, POINTS, SAMPLES, TOOLS, Stage, Staged, arrays_of, write_mat, write_stage_rows, write_text, write_words
+from mizgaure.stage_files import BITS, LABELS, LIBRARY, POINTS, PROGRAM, SAMPLES, TOOLS, Stage, Staged, arrays_of, write_mat, write_stage_rows, write_text, write_words
 
-try:
-    from mizgaure import stages
-except ImportError:
-    stages = None
-
-proved = pytest.mark.skipif(stages is None, reason="library/build hasn't built the library")
+proved = pytest.mark.skipif(stages.library is None, reason="library/build hasn't built the library")
 LEGACY = VECTORS / "legacy"
 
 # Annex L.1: the points of symbol 0 from subcarrier -26 up, which the annex gives divided by the square root of 10.
@@ -242,8 +237,68 @@ def test_the_command(here, tmp_path):
         assert (done.returncode, done.stdout, done.stderr.decode()) == (2, b"", f"mizgaure: {said}\n")
 
 
-def test_without_the_library_one_line_says_so(tmp_path):
-    environment = {**os.environ, "MIZGAURE_LIBRARY": str(tmp_path / "none.so"), "PYTHONPATH": str(TOP / "tools" / "src")}
-    done = subprocess.run([sys.executable, "-m", "mizgaure", "stages", "x.httx"], env=environment, cwd=tmp_path, capture_output=True, text=True, check=False)
-    assert done.returncode == 2 and done.stdout == "" and done.stderr.count("\n") == 1
-    assert done.stderr.startswith("mizgaure: stages come from the proved library, which library/build makes: there is no proved library at ")
+def by_program(radio, path):
+    """The stages that the program gives of the frames of a file, each by name, and all names, those left out included, in the page's order."""
+    for staged in stages.stages_of(path, radio=radio):
+        left_out = [name for reason in staged.left_out for name in reason.partition(":")[0].split(", ")]
+        yield {stage.name: stage for stage in staged.stages}, {stage.name for stage in staged.stages}.union(left_out)
+
+
+SENT = {"data", "scrambled", "coded", "punctured", "parsed", "interleaved", "points", "samples"}
+RECEIVED = {"points", "labels", "demapped", "deinterleaved", "gathered", "depunctured", "decoded", "descrambled", "octets"}
+
+
+@pytest.mark.parametrize("bandwidth", [20, 40])
+def test_points_and_octets_of_the_program_are_another_programs(radio, bandwidth):
+    """Without the library: what `tx`, `detect` and `rx` say, and the names of all else."""
+    for mcs in range(0, 32, 5):
+        rate, path = Rate(bandwidth, mcs), VECTORS / "rates" / f"bw{bandwidth // 40}-mcs{mcs:02}"
+        (sent,) = read_htsy(path.with_suffix(".htsy"))
+        ((found, names),) = by_program(radio, path.with_suffix(".httx"))
+        points = found["points"].values
+        assert np.array_equal(points[..., 0] + 1j * points[..., 1], sent.points) and names == SENT
+        assert {name: stage.source for name, stage in found.items()} == {"data": TOOLS, "points": PROGRAM, "samples": TOOLS}
+        jobs, answer = (next(iter(read_answers(path.with_suffix(ending)))) for ending in (".detect", ".rx"))
+        ((found, names),) = by_program(radio, path.with_suffix(".htcp"))
+        points, data = found["points"].values, jobs.points.reshape(len(sent.points), -1, rate.streams)[:, ~rate.is_pilot]
+        assert np.array_equal(points[..., 0] + 1j * points[..., 1], data) and found["octets"].values.tobytes() == answer.octets
+        assert names == RECEIVED and {stage.source for stage in found.values()} == {PROGRAM} and f"at {answer.code} differences" in found["octets"].text
+
+
+def test_erasures_and_clause_18_of_the_program(radio):
+    for path in sorted((VECTORS / "version2").glob("*.rx")):
+        for (found, names), answer in zip(by_program(radio, path.with_suffix(".htcp")), read_answers(path)):
+            assert names == RECEIVED and ("octets" in found) == (answer.octets is not None)
+            assert answer.octets is None or found["octets"].values.tobytes() == answer.octets
+            assert not found["points"].values.any(axis=(0, 2, 3)).all()
+    ((found, names),) = by_program(radio, LEGACY / "annex-l1.lgtx")
+    assert list(map(tuple, found["points"].values[0, :14, 0].tolist())) == ANNEX and names == SENT - {"parsed"}
+    ((found, names),) = by_program(radio, LEGACY / "annex-l1.lgcp")
+    assert found["octets"].values.tobytes() == (LEGACY / "annex-l1.lgtx").read_bytes()[-100:] and names == RECEIVED - {"gathered"} and len(found) == 1
+
+
+def test_the_page_has_all_stages():
+    page = (TOP / "docs" / "CHAIN.md").read_text()
+    for names in (SENT, RECEIVED):
+        assert any(names == {cell.split("`")[1] for cell in row.split("|")[2].split(",")} for row in page.splitlines() if row.startswith("| frames (") or row.startswith("| captures ("))
+
+
+def test_without_the_library(radio, tmp_path):
+    """The command goes by the program, and says what is left out, and that the library that was named isn't there; without the program
+    either, one line says so.
+    """
+    none = tmp_path / "none.so"
+    remark = (f"mizgaure: there is no proved library at {none} (MIZGAURE_LIBRARY names one): {none}: cannot open shared object file: "
+              "No such file or directory; the program is run\n")
+
+    def stage(program, *words):
+        environment = {**os.environ, "MIZGAURE_LIBRARY": str(none), "MIZGAURE_RADIO": program, "PYTHONPATH": str(TOP / "tools" / "src")}
+        return subprocess.run([sys.executable, "-m", "mizgaure", "stages", *map(str, words)], env=environment, cwd=tmp_path, capture_output=True, text=True, check=False)
+
+    done = stage(radio.path, VECTORS / "worked" / "a5.httx")
+    left_out = "scrambled, coded, punctured, parsed, interleaved: the library alone gives them (docs/LIBRARY.md), and these values are the program's\n"
+    assert (done.returncode, done.stderr) == (0, remark) and done.stdout.endswith(f"\n{left_out}\n") and "; by the proved program radio\n" in done.stdout
+    done = stage(radio.path, VECTORS / "worked" / "a5.httx", "--csv", "-")
+    assert (done.returncode, done.stderr) == (0, f"{remark}mizgaure: left out of frame 0: {left_out}") and ",points,program," in done.stdout
+    done = stage(str(tmp_path / "none"), VECTORS / "worked" / "a5.httx")
+    assert (done.returncode, done.stdout, done.stderr) == (2, "", f"mizgaure: {tmp_path / 'none'} is no program that can be run\n")

@@ -17,8 +17,8 @@ from mizgaure.air import limits
 from mizgaure.air.recording import Layout
 from mizgaure.air.resampled import Resampled, fitted
 from mizgaure.air.simulate import LEVEL, Scene
-from mizgaure.air.transmitter import Finding, Measured, findings, interval_of, spectrum_of
-from mizgaure.air.waveform import Clock, pieces_of, sampled
+from mizgaure.air.transmitter import Finding, Measured, findings, interval_of, mask_curve, spectrum_of
+from mizgaure.air.waveform import Clock, joined, pieces_of
 from mizgaure.commands.verdict import measured
 
 CARRIER = 5.18e9
@@ -36,29 +36,18 @@ def frames_of(rate, count, length=500, seed=1):
     return made
 
 
-def faulty(rate=Rate(20, 7), count=ENOUGH, gains=(), leakage=None, carrier=0.0, clock=0.0, error=None, length=500, over=None, snr=45.0):
-    """A recording of packets of a transmitter with a fault, wired to as many antennas as streams.
+def faulty(rate=Rate(20, 7), count=ENOUGH, leakage=None, carrier=0.0, clock=0.0, length=500, over=None, snr=45.0):
+    """A recording of packets of a transmitter with a fault, wired to as many antennas as streams, by no scene of `waveform`.
 
-    Gains are in dB by the number of a subcarrier, the leakage in dB of the overall power of each chain, the carrier's offset
-    and the clock's in parts per million, and the error of points in dB.
+    The leakage is in dB of the overall power of each chain, the carrier's offset and the clock's in parts per million.
     """
     random, over = np.random.default_rng(7), over or rate.bandwidth // 20
-    factors = np.ones(2 * (28 if rate.bandwidth == 20 else 58) + 1)
-    for number, gain in dict(gains).items():
-        factors[number + factors.size // 2] = 10 ** (gain / 20)
     silence = np.zeros((rate.streams, 600 * over), complex)
     parts, at = [], 0
     for frame in frames_of(rate, count, length):
         parts.append(silence)
         at += silence.shape[1]
-        begin, packet = at * (1 + clock * 1e-6), []
-        for number, pieces in enumerate(pieces_of(frame)):
-            values = pieces.values * factors
-            if error is not None and number:
-                size = 10 ** (error / 20) / np.sqrt(2 * rate.subcarriers * rate.streams)
-                values = values + (values != 0) * size * (random.standard_normal((2, *values.shape)) * [[[[1]]], [[[1j]]]]).sum(axis=0)
-            packet.append(sampled(replace(pieces, values=values), begin, Clock(over, clock * 1e-6)))
-        samples = np.concatenate([made for _, made in packet], axis=1) * np.sqrt(rate.streams)
+        samples = joined(pieces_of(frame), at * (1 + clock * 1e-6), Clock(over, clock * 1e-6))[1] * np.sqrt(rate.streams)
         if leakage is not None:
             part = 10 ** (leakage / 10)
             samples = samples + np.sqrt(part / (1 - part))
@@ -76,15 +65,27 @@ def found(recording, test, reference=0.05, frequency=CARRIER):
     return next(each for each in findings(packets, frequency, reference, recording.layout.rate) if each.limit.test == test)
 
 
-@pytest.mark.parametrize("bandwidth, gains, deviation, verdict", [
-    (20, {10: 4.4}, 4.16, "fail"), (20, {10: 4.0}, 3.8, "pass"), (20, {-5: -4.2}, -4.11, "fail"), (20, {-5: -3.9}, -3.82, "pass"),
-    (20, {17: 4.2}, 4.2, "fail"), (20, {17: 3.8}, 3.8, "pass"), (20, {-28: -6.2}, -6.2, "fail"), (20, {-28: -5.8}, -5.8, "pass"),
-    (40, {42: -4.2}, -4.16, "fail"), (40, {43: -5.8}, -5.8, "pass"), (40, {-58: -6.2}, -6.2, "fail")])
-def test_flatness(bandwidth, gains, deviation, verdict):
-    outcome = found(faulty(Rate(bandwidth, 0), 6, gains, length=30), "spectral flatness")
-    (number,) = gains
+@pytest.mark.parametrize("bandwidth, number, gain, deviation, verdict", [
+    (20, 10, 4.4, 4.16, "fail"), (20, 10, 4.0, 3.8, "pass"), (20, -5, -4.2, -4.11, "fail"), (20, -5, -3.9, -3.82, "pass"),
+    (20, 17, 4.2, 4.2, "fail"), (20, 17, 3.8, 3.8, "pass"), (20, -28, -6.2, -6.2, "fail"), (20, -28, -5.8, -5.8, "pass"),
+    (40, 42, -4.2, -4.16, "fail"), (40, 43, -5.8, -5.8, "pass"), (40, -58, -6.2, -6.2, "fail")])
+def test_flatness(bandwidth, number, gain, deviation, verdict):
+    """One subcarrier is stronger or weaker than the others; an inner one moves the mean of the inner ones, too."""
+    gains = tuple((n, gain if n == number else 0.0) for n in (number - 1, number, number + 1) if abs(n) <= 58)
+    outcome = found(of_scene(Scene(gains=gains), Rate(bandwidth, 0), bandwidth // 20, length=30), "spectral flatness")
     assert outcome.value == pytest.approx(deviation, abs=0.1) and outcome.where == f"subcarrier {number} of antenna 0"
     assert outcome.verdict == verdict and outcome.limit.clause == "20.3.20.2"
+
+
+@pytest.mark.parametrize("rate", [Rate(20, 0), Rate(40, 8)])
+def test_flatness_of_a_slope(rate):
+    """Over all subcarriers so many dB: the upper edge is above the inner mean, which the stronger ones among the inner ones rule."""
+    edge, inner = (28, 16) if rate.bandwidth == 20 else (58, 42)
+    numbers = rate.frequencies[np.abs(rate.frequencies) <= inner]
+    for slope, verdict in ((8.2, "pass"), (9.2, "fail")):
+        mean = 10 * np.log10(np.mean(10 ** (slope * numbers / (20 * edge))))
+        outcome = found(of_scene(Scene(gains=((-edge, -slope / 2), (edge, slope / 2))), rate, rate.bandwidth // 20, length=60), "spectral flatness")
+        assert outcome.value == pytest.approx(slope / 2 - mean, abs=0.05) and outcome.where.startswith(f"subcarrier {edge} of") and outcome.verdict == verdict
 
 
 @pytest.mark.parametrize("bandwidth, leakage, carrier, verdict", [(20, -14.7, 0, "fail"), (20, -15.3, 0, "pass"), (20, -14.7, 3, "fail"), (20, -15.3, -3, "pass"),
@@ -107,13 +108,15 @@ def test_tolerances(test, fault, frequency, limit):
     assert found(recording, test, 0.1, None).outcome == "no verdict: the carrier's frequency isn't known (--frequency)"
 
 
-@pytest.mark.parametrize("rate, limit", [(Rate(20, 7), -28), (Rate(20, 4), -19), (Rate(40, 15), -28)])
-def test_constellation_error(rate, limit):
-    length = 500 * rate.data_bits // Rate(20, 7).data_bits
+@pytest.mark.parametrize("mcs, limit", enumerate((-5, -10, -13, -16, -19, -22, -25, -28)))
+def test_constellation_error(mcs, limit):
+    """At each rate of a stream, at 20 and at 40 MHz in turn, the latter with two streams."""
+    rate = Rate(40, 8 + mcs) if mcs % 2 else Rate(20, mcs)
+    length = 15 * rate.data_bits // 8  # of 16 symbols
     for error, verdict in ((limit + 0.3, "fail"), (limit - 0.3, "pass")):
-        outcome = found(faulty(rate, 20, error=error, length=length, snr=60), "constellation error")
+        outcome = found(of_scene(Scene(error=error), rate, rate.bandwidth // 20, 20, length), "constellation error")
         assert outcome.value == pytest.approx(error, abs=0.15) and outcome.verdict == verdict and outcome.limit.frames == 20
-    assert found(faulty(rate, 3, error=limit - 3, length=length), "constellation error").outcome == "no verdict: 3 of 20 frames"
+    assert found(of_scene(Scene(error=limit - 3.0), rate, rate.bandwidth // 20, 3, length), "constellation error").outcome == "no verdict: 3 of 20 frames"
 
 
 def test_constellation_error_over_data_pilots_and_all():
@@ -215,6 +218,16 @@ def test_the_mask_by_hand():
     assert at(25, 30, 50, band="5 GHz") == [-36.5, -40, -40] and at(19, 20, 21, 30.5, 40, 50, 60, bandwidth=40) == [0, -10, -20, -24, -28, -36.5, -45]
 
 
+def test_the_density_that_is_0_dbr():
+    """In dB of full scale per Hz: noise of mean power -40 dB in 20 MHz, whose mean is as far below its largest density as below 0 dBr."""
+    random = np.random.default_rng(1)
+    samples = (random.standard_normal((1, 1 << 18)) + 1j * random.standard_normal((1, 1 << 18))) * 0.01 / np.sqrt(2)
+    nothing = np.zeros((1, 56))
+    packet = Measured(Rate(20, 0), 16, 0.0, 0.0, 0.0, np.zeros(1), nothing + 1, np.zeros((16, 56, 1)), spectrum_of(samples, 20e6), spectrum_of(np.zeros((1, 0)), 20e6))
+    curve = mask_curve([packet], CARRIER, 20e6)
+    assert 10 * np.log10(np.mean(10 ** (curve.level / 10))) + curve.top == pytest.approx(-40 - 10 * np.log10(20e6), abs=0.1)
+
+
 def test_the_mask_where_it_can_not_be_seen():
     """Half the rate ends it, and so does the recorder's own noise; what is seen beyond the mask fails all the same."""
     flat = lambda offsets: np.where(np.abs(offsets) < 8.9e6, 0.0, -50.0)  # noqa: E731
@@ -256,16 +269,22 @@ def test_the_command(here, tmp_path):
     done = here("verdict", "bad", "--reference-ppm", "0.5")
     failed = [line.partition(",")[0] for line in done.stdout.decode().splitlines() if line.endswith(": fail")]
     assert done.returncode == 1 and failed == ["spectral mask", "symbol clock", "centre frequency leakage"]
+    write_htsy("many.htsy", frames_of(Rate(20, 7), 20, 500))
+    assert here("waveform", "many.htsy", "-o", "sloped", "--gains", "-28:-4.6,28:4.6", "--error", "-27.5", "--snr", "60").returncode == 0
+    failed = [line.partition(",")[0] for line in here("verdict", "sloped").stdout.decode().splitlines() if line.endswith(": fail")]
+    assert failed == ["spectral flatness", "constellation error"]
 
 
 def test_faults_that_waveform_refuses(here):
     write_htsy("sent.htsy", frames_of(Rate(20, 7), 1, 100))
     write_htsy("wide.htsy", frames_of(Rate(40, 7), 1, 100))
     write_htsy("both.htsy", [*frames_of(Rate(20, 7), 1, 100), *frames_of(Rate(40, 7), 1, 100)])
+    gains = "gains are those of subcarriers from -58 to 58, ascending, and -40 to 40 dB"
     asks = "asks for %d million samples a second (--rate), and not %d"
     for words, said in ((["sent.htsy", "--clock", "201"], "the symbol clock is off by 201 ppm, and has to be by -200 to 200"),
                         (["sent.htsy", "--leakage", "0"], "the leakage is 0 dB of the overall power, and has to be below 0"),
                         (["sent.htsy", "--filter", "20"], "a filter is beyond the channel, which 20 million samples a second don't show beside packets of 20 MHz"),
+                        (["sent.htsy", "--gains", "3:1,2:0"], gains), (["sent.htsy", "--gains", "59:1"], gains), (["sent.htsy", "--gains", "1:nan"], gains),
                         (["sent.htsy", "--nonadjacent"], "a nonadjacent channel is that of a neighbour (--neighbour)"),
                         (["sent.htsy", "--neighbour", "0"], "a neighbour in the next channel of 20 MHz " + asks % (40, 20)),
                         (["sent.htsy", "--neighbour", "0", "--nonadjacent", "--rate", "80"], "a neighbour in a nonadjacent channel of 20 MHz " + asks % (100, 80)),
@@ -280,8 +299,18 @@ def test_the_table_of_limits():
     """docs/TRANSMITTERS.md has each test with its clause, its limit and what it was compared with."""
     page = (TOP / "docs" / "TRANSMITTERS.md").read_text()
     for limit in limits.LIMITS:
-        assert f"| {limit.test} | {limit.clause} |" in page
-        assert limit.checked in page
+        (row,) = (row for row in page.splitlines() if row.startswith(f"| {limit.test} | {limit.clause} |"))
+        assert row.endswith(f"| {limit.checked} |")
+
+
+def test_limits_agree_with_one_another():
+    """What the table says that the numbers were held against."""
+    for bandwidth, subcarriers, other in ((20, 56, 2.0), (40, 114, 0.0)):
+        assert 10 * np.log10(10 ** (other / 10) / subcarriers) == pytest.approx(limits.LEAKAGE[bandwidth], abs=0.6)
+    assert 10 * np.log10(1 / 56) == pytest.approx(limits.LEAKAGE_BETWEEN, abs=0.6)
+    levels = np.array(limits.SENSITIVITY_LEVELS[20])
+    assert set(levels + limits.REJECTION) == {-66} and set(np.array(limits.SENSITIVITY_LEVELS[40]) - levels) == {3}
+    assert set(np.array(limits.REJECTION_FAR) - limits.REJECTION) == {16}
 
 
 def test_the_phase_of_symbols_is_tracked():
@@ -296,6 +325,22 @@ def test_a_packet_of_two_streams_at_40_mhz():
     packets = list(measured(recording, shown=False))
     assert len(packets) == 3 and packets[0].middle == 0 and packets[0].energies.shape == (2, 114)
     assert found(recording, "centre frequency").value == pytest.approx(5, abs=0.1)
+
+
+def test_packets_of_two_channels_are_two_transmitters():
+    """Those of the upper half of 40 MHz, which are those of the lower one 20 MHz higher, aren't taken for a hump 28 dB above its mask.
+
+    The far end of each, which sampling folds to the other end of the band, is some 10 dB above it.
+    """
+    lower = of_scene(Scene(filter=12), Rate(20, 0), 2, 4, 200)
+    samples = lower.read(0, lower.length // 2 * 2)
+    whole = np.concatenate((samples, samples * (-1.0) ** np.arange(samples.shape[1])), axis=1)
+    packets = list(measured(recording_of(octets_in(whole), Layout("cf32_le", 40e6, 1), CARRIER), shown=False))
+    found = [each for each in findings(packets, CARRIER, 0.1, 40e6) if each.limit.test != "constellation error"]
+    half = " in one half of 40 MHz"
+    assert [each.subject for each in found] == [f"20 MHz at {middle} MHz{more}" for middle in ("-10", "+10") for more in (", distance below it", "", "", "", "", half)]
+    assert len(packets) == 8 and [each.limit.test for each in found if each.verdict == "fail"] == ["spectral mask"] * 2
+    assert all(abs(float(each.where.split()[0])) > 29 and each.value > -14 for each in found if each.limit.test == "spectral mask")
 
 
 def test_a_recording_at_a_rate_that_shows_all_of_the_mask():

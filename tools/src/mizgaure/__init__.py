@@ -22,6 +22,8 @@ What is here:
 ``bundles``        several captures in one file, for ``radio many``
 ``sweep``          error rates against the signal-to-noise ratio, over random channels
 ``library``        the program's layers as functions over arrays, by the proved library ``libmizgaure`` where it is built
+``inside``         that library in place of the program: its answers to a frame
+``stages``         what each stage of the chain has for a frame; ``stage_files`` the same as files
 ``air``            packets as complex samples: waveforms, and packets of recordings, in a package of its own
 ``packets``        MPDUs, A-MPDUs, MAC headers, and pcap files for Wireshark
 ``pcapng``         the blocks of pcapng files

@@ -13,7 +13,8 @@ from __future__ import annotations
 import os
 from collections.abc import Sequence
 from dataclasses import dataclass, field
-from typing import BinaryIO, ContextManager, Iterable, Iterator, Optional, Tuple
+from functools import lru_cache
+from typing import Any, BinaryIO, ContextManager, Iterable, Iterator, Optional, Tuple, Union
 
 import numpy as np
 
@@ -69,10 +70,13 @@ class CaptureFrame:
         check_shape(number, "erased", self.erased, (carriers,))
         if np.all(self.erased):
             raise InputError(f"frame {number}: all subcarriers are erased, and a frame has a present one")
-        for row in range(n):
-            for column in range(n):
-                self._check_entry(number, row, column)
+        if not _are_triangles(self.triangles):
+            for row in range(n):
+                for column in range(n):
+                    self._check_entry(number, row, column)
         for parts in (np.real(self.samples), np.imag(self.samples)):
+            if _are_whole(parts, *SAMPLE_LIMITS):
+                continue
             good = (np.rint(parts) == parts) & (parts >= SAMPLE_LIMITS[0]) & (parts <= SAMPLE_LIMITS[1])
             good |= self.erased[None, :, None]
             if not good.all():
@@ -100,6 +104,25 @@ class CaptureFrame:
             value = self.triangles[carrier, row, column]
             raise InputError(f"frame {number}, subcarrier {carrier}: entry ({row + 1}, {column + 1}) is {show(value)}, "
                              f"and has to be {asked}")
+
+
+def _are_whole(parts: np.ndarray, low: Union[int, np.ndarray], high: Union[int, np.ndarray]) -> bool:
+    """Whether all parts are whole numbers of a range."""
+    return bool(((parts >= low) & (parts <= high) & (np.rint(parts) == parts)).all())
+
+
+def _are_triangles(triangles: np.ndarray) -> bool:
+    """Whether all entries are whole, and fit their fields."""
+    real, imag = _entry_limits(triangles.shape[-1])
+    return _are_whole(np.real(triangles), *real) and _are_whole(np.imag(triangles), *imag)
+
+
+@lru_cache(maxsize=None)
+def _entry_limits(streams: int) -> Tuple[Tuple[np.ndarray, np.ndarray], ...]:
+    """The least and the largest real part of each entry of a triangle, and the same of imaginary parts: int64, shape (streams, streams)."""
+    above = np.triu(np.ones((streams, streams), np.int64), 1)
+    low, high = ENTRY_LIMITS
+    return (low * above, high * above + DIAGONAL_LIMIT * np.eye(streams, dtype=np.int64)), (low * above, high * above)
 
 
 @dataclass(eq=False)
@@ -459,19 +482,29 @@ def write_htcp(target: Target, frames: Iterable[CaptureFrame], *, version: Optio
         raise InputError(f"captures have version 1 or 2, and not {version}")
 
     def body(frame: CaptureFrame, number: int) -> Iterator[bytes]:
-        if version == 1 and np.any(frame.erased):
-            raise InputError(f"frame {number} has erased subcarriers, which only version 2 knows")
-        present = np.flatnonzero(~frame.erased)
-        words = _words_of_triangles(frame.triangles[present])
         if version == 1:
-            yield words.tobytes()
-        else:
-            rows = iter(words)
-            yield b"".join(b"\1" if erased else b"\0" + next(rows).tobytes() for erased in frame.erased)
-        samples = frame.samples[:, present]
-        yield np.stack((samples.real, samples.imag), axis=-1).astype(">i4").tobytes()
+            return _body_1(frame, number)
+        present = np.flatnonzero(~frame.erased)
+        rows = iter(_words_of_triangles(frame.triangles[present]))
+        return iter((b"".join(b"\1" if erased else b"\0" + next(rows).tobytes() for erased in frame.erased), _octets_of_samples(frame.samples[:, present])))
 
     _write(target, MAGIC["htcp"], version, frames, count, body, force)
+
+
+def htcp_frame(frame: CaptureFrame) -> bytes:
+    """A frame of `mizgaure.capture`, whose numbers fit their fields, as it stands in a capture of version 1."""
+    return b"".join((_head(frame), *_body_1(frame, 0)))
+
+
+def _body_1(frame: CaptureFrame, number: int) -> Iterator[bytes]:
+    if np.any(frame.erased):
+        raise InputError(f"frame {number} has erased subcarriers, which only version 2 knows")
+    yield _words_of_triangles(frame.triangles).tobytes()
+    yield _octets_of_samples(frame.samples)
+
+
+def _octets_of_samples(samples: np.ndarray) -> bytes:
+    return np.ascontiguousarray(samples, complex).view(float).astype(">i4").tobytes()
 
 
 def write_httx(target: Target, frames: Iterable[SentFrame], *, count: Optional[int] = None, force: bool = False) -> None:
@@ -492,6 +525,10 @@ def write_htsy(target: Target, frames: Iterable[SymbolsFrame], *, count: Optiona
     _write(target, MAGIC["htsy"], 1, frames, count, body, force)
 
 
+def _head(frame: Any) -> bytes:
+    return bytes([frame.rate.bandwidth == 40, frame.rate.mcs]) + frame.length.to_bytes(2, "big")
+
+
 def _write(target: Target, magic: bytes, version: int, frames: Iterable, count: Optional[int], body, force: bool) -> None:
     if count is None:
         if not isinstance(frames, Sequence):
@@ -507,7 +544,7 @@ def _write(target: Target, magic: bytes, version: int, frames: Iterable, count: 
                 raise InputError(f"{count} frames were announced, and more came")
             frame.check(number - 1)
             check_length(frame.length)
-            stream.write(bytes([frame.rate.bandwidth == 40, frame.rate.mcs]) + frame.length.to_bytes(2, "big"))
+            stream.write(_head(frame))
             for piece in body(frame, number - 1):
                 stream.write(piece)
         if number < count:

@@ -9,8 +9,8 @@ The other receiver writes one line for each job that it answers, and one for eac
 The program's own lines, with their distances and sums, are accepted as well, and so is its end line. Or it writes a file of
 certificates (HTCT), whose records are the data jobs of the capture in their order; its marks aren't looked at here, but by
 `certificates.check`. What is stated is compared: a distance with that of the vector, the sums of a frame with those of the
-reference, and the number of frames with the capture's. The reference is what the proved program says of the same capture;
-it is run, or its lines are given. The distances of the other receiver's vectors are computed here, exactly, and that of each
+reference, and the number of frames with the capture's. The reference is what the proved receiver says of the same capture:
+the library, where it is there, or the program, or kept lines of that. The distances of the other receiver's vectors are computed here, exactly, and that of each
 reference vector is computed too and has to be the one that the program says.
 
 A line that can't be read, a second answer, and one to what the capture doesn't have are told (`LineFault`) and passed over.
@@ -26,7 +26,7 @@ from __future__ import annotations
 import heapq
 import json
 from collections import Counter
-from contextlib import ExitStack, contextmanager
+from contextlib import ExitStack, closing, contextmanager
 from dataclasses import dataclass, field
 from typing import BinaryIO, ContextManager, Dict, Iterable, Iterator, List, Optional, Protocol, Set, Tuple, Type, Union, cast
 
@@ -40,6 +40,7 @@ from .distances import distances, on_grid, places
 from .errors import InputError, ProgramError
 from .files import Source, fronted, naming, repeatable
 from .formats import CaptureFrame, read_htcp
+from .inside import Called, Inside, receiver
 from .program import Radio
 from .soft import SoftVerdict
 from .theirs import MISPLACED, REPEATED, LineCounts, LineFault, Theirs, TheirCertificates, TheirJobs, TheirLines, TheirOctets
@@ -239,7 +240,8 @@ def write_verdict(stream: BinaryIO, verdict: Union[Verdict, SoftVerdict]) -> Non
     stream.write("".join(json.dumps(record) + "\n" for record in records).encode())
 
 
-def judge(capture: Source, answers: Source, *, reference: Optional[Source] = None, radio: Optional[Radio] = None) -> Judgement:
+def judge(capture: Source, answers: Source, *, reference: Optional[Source] = None,
+          radio: Optional[Union[Inside, Radio]] = None) -> Judgement:
     """Judge another receiver's answers, and keep all verdicts.
 
     Parameters
@@ -249,9 +251,9 @@ def judge(capture: Source, answers: Source, *, reference: Optional[Source] = Non
         The other receiver's lines, or its certificates (HTCT).
     reference : path, bytes or binary stream, optional
         Lines of ``radio detect`` and ``radio rx`` on the capture, one behind the other, where they are kept. Otherwise
-        the program is run.
-    radio : Radio, optional
-        The program, where it isn't to be looked for.
+        the library is called, or the program is run.
+    radio : Inside or Radio, optional
+        The library or the program, where it isn't to be looked for.
 
     Returns
     -------
@@ -273,7 +275,7 @@ def judge(capture: Source, answers: Source, *, reference: Optional[Source] = Non
 
 
 def judged(capture: Source, answers: Source, counts: Counts, *, reference: Optional[Source] = None,
-           radio: Optional[Radio] = None) -> Iterator[Verdict]:
+           radio: Optional[Union[Inside, Radio]] = None) -> Iterator[Verdict]:
     """Judge another receiver's answers frame by frame; other parameters and errors as in `judge`.
 
     Parameters
@@ -296,7 +298,7 @@ def judged(capture: Source, answers: Source, counts: Counts, *, reference: Optio
         first = True
         while first or bench.late:
             with ExitStack() as running:
-                known = _Run(running, radio or Radio(), capture) if kept is None else _Kept(running, kept)
+                known = _Kept(running, kept) if kept is not None else _proved(running, radio or receiver(), capture)
                 for verdict in bench.passed(capture, known, first):
                     counts.add(verdict)
                     yield verdict
@@ -361,7 +363,7 @@ class _Bench:
         jobs = None if jobs is None else self._fresh(number, frame, jobs)
         if jobs is None and not octets:
             return
-        reference = known.jobs(number)
+        reference = known.jobs(number, frame)
         if reference is not None:
             _check_reference(frame, number, reference)
         if jobs is not None:
@@ -371,7 +373,7 @@ class _Bench:
             self.looks.at_jobs(frame, reference, verdicts.symbol, verdicts.carrier, verdicts.points, np.isin(verdicts.verdict, (WORSE, OUTSIDE)))
             yield verdicts
         for decoded in octets:
-            answer = known.frame(number)
+            answer = known.frame(number, frame)
             if answer is None:
                 raise InputError(f"the reference has no line of frame {number}")
             self.decoded.add(number)
@@ -418,13 +420,19 @@ def _frames(capture: Source) -> Iterator[CaptureFrame]:
 
 
 class Reference(Protocol):
-    """What the proved program says of a capture; frames are asked for in ascending order."""
+    """What the proved receiver says of a capture; frames are asked for in ascending order."""
 
-    def jobs(self, number: int) -> Optional[Jobs]:
+    def jobs(self, number: int, frame: CaptureFrame) -> Optional[Jobs]:
         """Its answers to the jobs of a frame."""
 
-    def frame(self, number: int) -> Optional[FrameAnswer]:
+    def frame(self, number: int, frame: CaptureFrame) -> Optional[FrameAnswer]:
         """Its line of a frame."""
+
+
+def _proved(stack: ExitStack, radio: Union[Inside, Radio], capture: Source) -> Reference:
+    if isinstance(radio, Inside):
+        return stack.enter_context(closing(Called(radio, capture, "judge")))
+    return _Run(stack, radio, capture)
 
 
 class _Texts:
@@ -459,14 +467,14 @@ class _Run(_Texts):
     def opened(self, word: str) -> ContextManager[Answers]:
         return self._radio.answers(word, self._capture)
 
-    def jobs(self, number: int) -> Jobs:
+    def jobs(self, number: int, _: CaptureFrame) -> Jobs:
         record = self.of("detect", number)
         if not isinstance(record, Jobs):
             self._stack.close()  # where the program failed, this says why
             raise ProgramError(f"the program's detect wrote no jobs of frame {number}")
         return record
 
-    def frame(self, number: int) -> FrameAnswer:
+    def frame(self, number: int, _: CaptureFrame) -> FrameAnswer:
         record = self.of("rx", number)
         if not isinstance(record, FrameAnswer):
             self._stack.close()
@@ -493,10 +501,10 @@ class _Kept(_Texts):
             if isinstance(answers.last, Refused):
                 raise InputError("these lines are to an input that is no capture")
 
-    def jobs(self, number: int) -> Optional[Jobs]:
+    def jobs(self, number: int, _: CaptureFrame) -> Optional[Jobs]:
         return cast(Optional[Jobs], self.of("detect", number))
 
-    def frame(self, number: int) -> Optional[FrameAnswer]:
+    def frame(self, number: int, _: CaptureFrame) -> Optional[FrameAnswer]:
         return cast(Optional[FrameAnswer], self.of("rx", number))
 
 

@@ -22,7 +22,7 @@ import numpy as np
 from .errors import InputError
 from .rates import Rate
 
-VERSION = 1
+VERSION = 2
 
 #: An entry of a channel above the diagonal.
 TAP = np.dtype([("re", "<i2"), ("im", "<i2")])
@@ -98,8 +98,30 @@ class NoPoint(Fault):
     """A point is off the constellation."""
 
 
+class NotCertified(Fault):
+    """A certificate doesn't hold.
+
+    Attributes
+    ----------
+    kind : str
+        What is wrong with it, as ``WrongDistance`` (docs/CERTIFICATES.md).
+    at : int
+        The number that goes with that.
+    """
+
+    def __init__(self, kind: str, at: int) -> None:
+        super().__init__(f"{kind} at {at}")
+        self.kind = kind
+        self.at = at
+
+
 #: The faults by their numbers; 0 is none.
-FAULTS = (None, NoMemory, NoRate, NoPattern, NoSeed, BadLength, NoStream, NoRoom, Refused, NoModulation, NoLabel, NoPoint)
+FAULTS = (
+    None, NoMemory, NoRate, NoPattern, NoSeed, BadLength, NoStream, NoRoom, Refused, NoModulation, NoLabel, NoPoint, NotCertified,
+)
+
+#: What can be wrong with a certificate, by numbers (docs/CERTIFICATES.md).
+FLAWS = ("", "OffGrid", "WrongDistance", "Early", "Better", "Short", "Long")
 
 #: The kinds of refusals by their numbers (docs/FORMATS.md).
 KINDS = (
@@ -114,6 +136,10 @@ class _Pair(ctypes.Structure):
 
 class _Refusal(ctypes.Structure):
     _fields_ = [("offset", ctypes.c_uint64), ("kind", ctypes.c_uint32)]
+
+
+class _Flaw(ctypes.Structure):
+    _fields_ = [("low", ctypes.c_uint64), ("high", ctypes.c_uint64), ("kind", ctypes.c_uint32)]
 
 
 def _opened() -> ctypes.CDLL:
@@ -137,7 +163,10 @@ _P, _N, _U8, _U16, _U32, _U64 = ctypes.c_void_p, ctypes.c_size_t, ctypes.c_uint8
 
 
 def _call(name: str, *types: type):
-    function = getattr(_library, "mizgaure_" + name)
+    try:
+        function = getattr(_library, "mizgaure_" + name)
+    except AttributeError as error:
+        raise ImportError(f"the library {_library._name} lacks a call: {error}") from error
     function.argtypes, function.restype = types, ctypes.c_uint32
     return function
 
@@ -171,8 +200,19 @@ _lrx = _call("lrx", _P, _N, _P, _N, _P, _P)
 _certify = _call("certify", _P, _N, _P, _N, _P, _P)
 _check_file = _call("check", _P, _N, _P, _N, _P, _P)
 _pass = _call("pass", _U64, _U16, _P, _N, _P, _N, _P, _P)
+_certify_job = _call("certify_job", _U8, _U8, _P, _P, _P, _P, _N, _P)
+_check_job = _call("check_job", _U8, _U8, _P, _P, _P, _P, _N, _P)
+_split = _call("split", _U8, _U8, _P, _N, _P, _N, _P, _N)
+_join = _call("join", _U8, _U8, _P, _N, _P, _N, _P, _N)
+_legacy_decode_frame = _call("legacy_decode_frame", _U8, _P, _N, _P, _N, _P)
+_many = _call("many", _P, _N, _P, _N, _P, _P)
+_tx = _call("tx", _P, _N, _P, _N, _P, _P)
+_upgrade = _call("upgrade", _P, _N, _P, _N, _P, _P)
+_legacy_pass = _call("legacy_pass", _U64, _U16, _P, _N, _P, _N, _P, _P)
 
 _PERIODS = (1, 2, 3, 5)
+_INT32 = np.dtype(np.int32)
+_octet_at = ctypes.c_char.from_buffer
 
 
 def _check(fault: int) -> None:
@@ -188,7 +228,10 @@ def _ranged(name: str, value: int, top: int) -> int:
 
 
 def _fits(array, dtype) -> bool:
-    return type(array) is np.ndarray and array.dtype == dtype and array.flags.c_contiguous and array.flags.aligned
+    if type(array) is not np.ndarray or array.dtype != dtype:
+        return False
+    flags = array.flags
+    return flags.c_contiguous and flags.aligned
 
 
 def _given(array, dtype) -> np.ndarray:
@@ -212,6 +255,8 @@ def _samples(received) -> np.ndarray:
     """Received samples as RECEIVED, also from int32 of shape (.., 4, 2)."""
     if _fits(received, RECEIVED):
         return received
+    if _fits(received, _INT32) and received.shape[-2:] == (4, 2):
+        return np.ndarray(received.shape[:-2], RECEIVED, received)
     made = np.asarray(received)
     if made.dtype == RECEIVED:
         return np.require(made, RECEIVED, ("C", "A"))
@@ -230,21 +275,32 @@ def _octets(given: Octets) -> np.ndarray:
 def _out(out: Optional[np.ndarray], shape, dtype) -> np.ndarray:
     if out is None:
         return np.empty(shape, dtype)
-    shape = (shape,) if isinstance(shape, int) else tuple(shape)
+    shape = (shape,) if isinstance(shape, int) else shape
     if not isinstance(out, np.ndarray) or out.dtype != dtype or out.shape != shape:
         raise InputError(f"out is no array of {np.dtype(dtype)} of the shape {shape}")
-    if not (out.flags.c_contiguous and out.flags.aligned and out.flags.writeable):
+    if not out.flags.carray:
         raise InputError("out isn't C-contiguous, aligned and writeable")
     return out
 
 
 def _at(array: np.ndarray) -> int:
+    """Where the array lies: by its buffer, which is quicker where its elements are numbers and it is neither fixed nor empty."""
+    if array.dtype.names is None:
+        try:
+            return ctypes.addressof(_octet_at(array))
+        except (TypeError, ValueError):
+            pass
     return array.ctypes.data
 
 
-def _apart(out: np.ndarray, *others: np.ndarray) -> None:
-    if any(np.may_share_memory(out, other) for other in others):
-        raise InputError("out shares memory with another argument")
+def _apart(out: np.ndarray, *others: np.ndarray) -> tuple[int, ...]:
+    """Where the arrays lie, if the first, which is written, shares no octet with another."""
+    at, *places = addresses = _at(out), *map(_at, others)
+    end = at + out.nbytes
+    for place, other in zip(places, others):
+        if at < place + other.nbytes and place < end:
+            raise InputError("out shares memory with another argument")
+    return addresses
 
 
 def _rate(rate: Rate) -> tuple[int, int]:
@@ -295,8 +351,8 @@ def detect_symbols(rate: Rate, channels: np.ndarray, received: np.ndarray, out: 
     """
     channels, received = _given(channels, CHANNEL), _samples(received)
     hits = _out(out, received.shape, HIT)
-    _apart(hits, channels, received)
-    _check(_detect_symbols(*_rate(rate), _at(channels), channels.size, _at(received), received.size, _at(hits), hits.size))
+    into, of, samples = _apart(hits, channels, received)
+    _check(_detect_symbols(*_rate(rate), of, channels.size, samples, received.size, into, hits.size))
     return hits
 
 
@@ -314,8 +370,8 @@ def weigh_symbols(rate: Rate, channels: np.ndarray, received: np.ndarray, out: O
     """
     channels, received = _given(channels, CHANNEL), _samples(received)
     weights = _out(out, (*received.shape, rate.streams, rate.bits_per_point), np.dtype(np.int32))
-    _apart(weights, channels, received)
-    _check(_weigh_symbols(*_rate(rate), _at(channels), channels.size, _at(received), received.size, _at(weights), weights.size))
+    into, of, samples = _apart(weights, channels, received)
+    _check(_weigh_symbols(*_rate(rate), of, channels.size, samples, received.size, into, weights.size))
     return weights
 
 
@@ -352,8 +408,8 @@ def encode(pattern: int, bits: np.ndarray, out: Optional[np.ndarray] = None) -> 
     """The punctured codeword of input bits, tail included: bool, shape (sent(pattern, n),) (clauses 18.3.5.6 and 20.3.11.6)."""
     bits = _given(bits, np.bool_)
     coded = _out(out, sent(pattern, bits.size), np.bool_)
-    _apart(coded, bits)
-    _check(_encode(pattern, _at(bits), bits.size, _at(coded), coded.size))
+    into, of = _apart(coded, bits)
+    _check(_encode(pattern, of, bits.size, into, coded.size))
     return coded
 
 
@@ -373,8 +429,8 @@ def decode(pattern: int, received: np.ndarray, steps: int, out: Optional[np.ndar
     """
     received, distance = _given(received, np.uint8), ctypes.c_uint32()
     bits = _out(out, _ranged("the number of steps", steps, 524302), np.bool_)
-    _apart(bits, received)
-    _check(_decode(_ranged("the pattern", pattern, 255), _at(received), received.size, _at(bits), bits.size, ctypes.addressof(distance)))
+    into, of = _apart(bits, received)
+    _check(_decode(_ranged("the pattern", pattern, 255), of, received.size, into, bits.size, ctypes.addressof(distance)))
     return bits, distance.value
 
 
@@ -382,8 +438,8 @@ def soft_decode(pattern: int, weights: np.ndarray, steps: int, out: Optional[np.
     """The first terminated input that costs least at weights (int32, positive where a 1 is likelier), and its cost. See ``decode``."""
     weights, cost = _given(weights, np.int32), ctypes.c_uint64()
     bits = _out(out, _ranged("the number of steps", steps, 524302), np.bool_)
-    _apart(bits, weights)
-    _check(_soft_decode(_ranged("the pattern", pattern, 255), _at(weights), weights.size, _at(bits), bits.size, ctypes.addressof(cost)))
+    into, of = _apart(bits, weights)
+    _check(_soft_decode(_ranged("the pattern", pattern, 255), of, weights.size, into, bits.size, ctypes.addressof(cost)))
     return bits, cost.value
 
 
@@ -521,39 +577,47 @@ def legacy_pilots(symbol: int) -> np.ndarray:
     return made
 
 
-def _written(call, given: Octets, *before: int) -> bytes:
+def _written(call, given: Octets, *before: int, out: Optional[np.ndarray] = None) -> Union[bytes, memoryview]:
     given = _octets(given)
     size, refusal = ctypes.c_uint64(), _Refusal()
-    room = np.empty(max(4096, 2 * given.size), np.uint8)
+    if out is None:
+        room = np.empty(4096 + 8 * given.size, np.uint8)  # memory that nothing is written to costs nothing
+    else:
+        room = _out(out, getattr(out, "shape", None), np.dtype(np.uint8))
     while True:
-        fault = call(*before, _at(given), given.size, _at(room), room.size, ctypes.addressof(size), ctypes.addressof(refusal))
-        if fault == FAULTS.index(NoRoom):
+        into, of = _apart(room, given)
+        fault = call(*before, of, given.size, into, room.size, ctypes.addressof(size), ctypes.addressof(refusal))
+        if fault == FAULTS.index(NoRoom) and out is None:
             room = np.empty(size.value, np.uint8)
             continue
         if fault == FAULTS.index(Refused):
             raise Refused(KINDS[refusal.kind], refusal.offset)
         _check(fault)
-        return room[: size.value].tobytes()
+        return room[: size.value].tobytes() if out is None else memoryview(room)[: size.value]
 
 
-def detect(capture: Octets) -> bytes:
-    """The text of ``radio detect`` for a capture (HTCP) in memory."""
-    return _written(_detect, capture)
+def detect(capture: Octets, out: Optional[np.ndarray] = None) -> Union[bytes, memoryview]:
+    """The text of ``radio detect`` for a capture (HTCP) in memory.
+
+    Where ``out`` is given, an array of uint8, the text is put there, and the answer is a view of it: an array that is used again
+    costs no new memory. ``NoRoom`` if it is too short.
+    """
+    return _written(_detect, capture, out=out)
 
 
-def rx(capture: Octets) -> bytes:
-    """The text of ``radio rx`` for a capture (HTCP) in memory."""
-    return _written(_rx, capture)
+def rx(capture: Octets, out: Optional[np.ndarray] = None) -> Union[bytes, memoryview]:
+    """The text of ``radio rx`` for a capture (HTCP) in memory. ``out`` is as in ``detect``."""
+    return _written(_rx, capture, out=out)
 
 
-def soft(capture: Octets) -> bytes:
-    """The text of ``radio soft`` for a capture (HTCP) in memory."""
-    return _written(_soft, capture)
+def soft(capture: Octets, out: Optional[np.ndarray] = None) -> Union[bytes, memoryview]:
+    """The text of ``radio soft`` for a capture (HTCP) in memory. ``out`` is as in ``detect``."""
+    return _written(_soft, capture, out=out)
 
 
-def lrx(capture: Octets) -> bytes:
-    """The text of ``radio lrx`` for a capture of clause 18 frames (LGCP) in memory."""
-    return _written(_lrx, capture)
+def lrx(capture: Octets, out: Optional[np.ndarray] = None) -> Union[bytes, memoryview]:
+    """The text of ``radio lrx`` for a capture of clause 18 frames (LGCP) in memory. ``out`` is as in ``detect``."""
+    return _written(_lrx, capture, out=out)
 
 
 def certify(capture: Octets) -> bytes:
@@ -569,3 +633,88 @@ def check(certificates: Octets) -> bytes:
 def channel(symbols: Octets, seed: int = 1, noise: int = 0) -> bytes:
     """The capture (HTCP) of ``radio channel`` for a file of symbols (HTSY) in memory, with its seed and its noise."""
     return _written(_pass, symbols, _ranged("the seed", seed, (1 << 64) - 1), _ranged("the noise", noise, 65535))
+
+
+def many(bundle: Octets, out: Optional[np.ndarray] = None) -> Union[bytes, memoryview]:
+    """The text of ``radio many`` for a bundle of captures (HTMB) in memory. ``out`` is as in ``detect``."""
+    return _written(_many, bundle, out=out)
+
+
+def tx(frames: Octets) -> bytes:
+    """The file of symbols (HTSY) of ``radio tx`` for a file of frames (HTTX) in memory."""
+    return _written(_tx, frames)
+
+
+def upgrade(capture: Octets) -> bytes:
+    """The capture of version 2 of ``radio upgrade`` for a capture (HTCP) in memory."""
+    return _written(_upgrade, capture)
+
+
+def legacy_channel(frames: Octets, seed: int = 1, noise: int = 0) -> bytes:
+    """The capture (LGCP) of ``radio lchannel`` for a file of clause 18 frames (LGTX) in memory, with its seed and its noise."""
+    return _written(_legacy_pass, frames, _ranged("the seed", seed, (1 << 64) - 1), _ranged("the noise", noise, 65535))
+
+
+def split(rate: Rate, bits: np.ndarray) -> tuple[np.ndarray, np.ndarray]:
+    """Scrambled bits shared out among the encoders: bool, two arrays, the second empty with one encoder (clause 20.3.11.5)."""
+    bits, share = _given(bits, np.bool_), -(-np.size(bits) // rate.encoders)
+    first, second = np.empty(share, np.bool_), np.empty((rate.encoders - 1) * share, np.bool_)
+    _check(_split(*_rate(rate), _at(bits), bits.size, _at(first), first.size, _at(second), second.size))
+    return first, second
+
+
+def join(rate: Rate, first: np.ndarray, second: np.ndarray = ()) -> np.ndarray:
+    """The bits of the encoders put together again, which undoes ``split``: bool, shape (n,)."""
+    first, second = _given(first, np.bool_), _given(np.zeros(0, np.bool_) if len(second) == 0 else second, np.bool_)
+    bits = np.empty(rate.encoders * first.size, np.bool_)
+    _check(_join(*_rate(rate), _at(first), first.size, _at(second), second.size, _at(bits), bits.size))
+    return bits
+
+
+def legacy_decode_frame(rate: int, labels: np.ndarray, length: int) -> tuple[bytes, int]:
+    """The octets of a clause 18 frame's PSDU by hard decisions, and at how many places its coded bits differ.
+
+    Parameters
+    ----------
+    rate : int
+        0 to 7, for 6 to 54 Mbit/s.
+    labels : uint8, N_SYM * 48 of them in the order symbol, data subcarrier
+    length : int
+        The number of octets, 1 to 4095.
+    """
+    labels, octets, differences = _given(labels, np.uint8), np.empty(_ranged("the length", length, 4095), np.uint8), ctypes.c_uint32()
+    _check(_legacy_decode_frame(_legacy_rate(rate), _at(labels), labels.size, _at(octets), octets.size, ctypes.addressof(differences)))
+    return octets.tobytes(), differences.value
+
+
+def _job(channel: np.ndarray, received: np.ndarray) -> tuple[np.ndarray, np.ndarray]:
+    channel, received = _given(channel, CHANNEL), _samples(received)
+    if channel.size != 1 or received.size != 1:
+        raise BadLength("a job has one channel and what was received on it")
+    return channel, received
+
+
+def certify_job(rate: Rate, channel: np.ndarray, received: np.ndarray) -> tuple[np.void, np.ndarray]:
+    """The certificate of one data subcarrier: its hit, as ``nearest`` has it, and the marks that show it: bool, True where a level is open."""
+    channel, received = _job(channel, received)
+    found, marks, size = np.empty((), HIT), np.empty(256, np.bool_), ctypes.c_uint64()
+    while True:
+        at = _at(channel), _at(received), _at(found), _at(marks)
+        fault = _certify_job(*_rate(rate), *at, marks.size, ctypes.addressof(size))
+        if fault != FAULTS.index(NoRoom):
+            _check(fault)
+            return found[()], marks[: size.value].copy()
+        marks = np.empty(size.value, np.bool_)
+
+
+def check_job(rate: Rate, channel: np.ndarray, received: np.ndarray, hit: np.ndarray, marks: np.ndarray) -> None:
+    """Checks a certificate of one data subcarrier, whoever made it, and raises ``NotCertified`` where it doesn't hold."""
+    channel, received = _job(channel, received)
+    hit, marks, flaw = _given(hit, HIT), _given(marks, np.bool_), _Flaw()
+    if hit.size != 1:
+        raise BadLength("a certificate has one hit")
+    at = _at(channel), _at(received), _at(hit), _at(marks)
+    fault = _check_job(*_rate(rate), *at, marks.size, ctypes.addressof(flaw))
+    if fault == FAULTS.index(NotCertified):
+        raise NotCertified(FLAWS[flaw.kind], flaw.low + (flaw.high << 64))
+    _check(fault)

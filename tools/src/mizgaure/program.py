@@ -224,7 +224,7 @@ class Radio:
         return [self.path, word, *workers]
 
     def _feed(self, word: str, stream: BinaryIO, sink: BinaryIO, failed: List[OSError]) -> None:
-        bar = Progress(_size(stream), f"radio {word}", self.progress)
+        bar = Progress(octets_left(stream), f"radio {word}", self.progress)
         try:
             while piece := stream.read(PIECE):
                 sink.write(piece)
@@ -298,16 +298,26 @@ class Radio:
         return records
 
     def tx(self, octets: bytes) -> bytes:
-        """What ``radio tx`` makes of a file of frames (HTTX): a file of symbols (HTSY).
+        """What ``radio tx`` makes of a file of frames (HTTX): a file of symbols (HTSY)."""
+        return self.made("tx", octets)
+
+    def made(self, word: str, octets: bytes) -> bytes:
+        """The file that a command makes of another.
+
+        Parameters
+        ----------
+        word : str
+            ``"tx"`` or ``"lchannel"``, which makes a capture (LGCP) without noise of a file of clause 18 frames (LGTX).
+        octets : bytes
 
         Raises
         ------
         FormatError
-            If the octets are no file of frames.
+            If the octets are no file of the command's.
         ProgramError
-            If the program has no command ``tx``.
+            If the program has no such command.
         """
-        with self.text("tx", octets) as output:
+        with self.text(word, octets) as output:
             made = output.read()
         if made.startswith(b"refused "):
             last = read_line(made.rstrip(b"\n"))
@@ -316,7 +326,7 @@ class Radio:
         return made
 
 
-def _size(stream: BinaryIO) -> Optional[int]:
+def octets_left(stream: BinaryIO) -> Optional[int]:
     """The number of octets that a stream still gives, where that can be known."""
     try:
         here = stream.tell()

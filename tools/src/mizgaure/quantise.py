@@ -13,6 +13,7 @@ channel.
 from __future__ import annotations
 
 from dataclasses import dataclass
+from functools import lru_cache
 from typing import Iterable, List, Optional, Sequence, Union
 
 import numpy as np
@@ -22,7 +23,7 @@ from .formats import DIAGONAL_LIMIT, ENTRY_LIMITS, SAMPLE_LIMITS, CaptureFrame, 
 from .rates import Rate
 
 FOR_SOFT = "soft"  # a gain that fits weights
-SOFT_DIAGONAL = 40.0  # neighbouring points are then 80 apart, and a weight between them is 6400 of the 65535 at which it is cut
+SOFT_DIAGONAL = 80.0  # neighbouring points are then 160 apart, and a weight between them is 25600 of the 65535 at which it is cut
 
 Gain = Optional[Union[float, str]]
 
@@ -150,6 +151,7 @@ def capture(frames: Iterable[MeasuredFrame], gain: Union[Gain, Sequence[Gain]] =
     return Capture([frame for frame, _ in made], used, np.array([rounding_bound(frame.rate) for frame, _ in made], float))
 
 
+@lru_cache(maxsize=None)
 def rounding_bound(rate: Rate) -> float:
     """By how much rounding can change the square root of a distance, in whole units, at any gain.
 
@@ -181,7 +183,7 @@ def _quantised(number: int, frame: MeasuredFrame, gain: Gain):
     try:
         rate, erased = frame.rate, frame.erased_mask()
         symbols = rate.symbols(frame.length)
-        channel, received = (_numbers(name, getattr(frame, name), "biufc").astype(complex) for name in ("channel", "received"))
+        channel, received = _numbers("channel", frame.channel, "biufc").astype(complex), _numbers("received", frame.received, "biufc")
     except InputError as error:
         raise InputError(f"frame {number}: {error}") from error
     antennas = channel.shape[1] if channel.ndim == 3 else 0
@@ -203,7 +205,7 @@ def _quantised(number: int, frame: MeasuredFrame, gain: Gain):
             raise InputError(f"frame {number}: the gain is {gain}, and has to be above 0")
         if not all(np.isfinite(part).all() for part in (triangles, samples, gain)):
             raise FitError(f"frame {number}: the parts of the channel and of what was received are too large or too small to be scaled")
-        triangles, samples = _rounded(triangles * gain), _rounded(samples * gain)
+        triangles, samples = _rounded(triangles, gain), _rounded(samples, gain)
     _check_fit(number, triangles, samples, gain)
     return CaptureFrame(rate, frame.length, triangles, samples, erased), float(gain)
 
@@ -226,51 +228,72 @@ def rotate(rate: Rate, channel: np.ndarray, received: np.ndarray, erased: np.nda
         Q* Y, with Q* the conjugate transpose. Zeros where erased.
     """
     factors = np.where(rate.is_pilot, 1.0, rate.normalising_factor)
-    scaled = np.where(erased[:, None, None], 0, channel) * factors[:, None, None]
-    vectors = np.where(erased[None, :, None], 0, received)
+    scaled, vectors = channel * factors[:, None, None], received
+    if erased.any():
+        scaled, vectors = np.where(erased[:, None, None], 0, scaled), np.where(erased[None, :, None], 0, vectors)
     missing = rate.streams - channel.shape[1]
     if missing > 0:  # antennas that hear nothing, so that there is a row for each stream
         scaled = np.pad(scaled, ((0, 0), (0, missing), (0, 0)))
         vectors = np.pad(vectors, ((0, 0), (0, 0), (0, missing)))
     rotation, triangles = np.linalg.qr(scaled)
-    diagonal = np.einsum("cii->ci", triangles)
+    diagonal = _diagonal(triangles)
     size = np.abs(diagonal)
     phases = np.where(size > 0, diagonal / np.where(size > 0, size, 1), 1)
-    rotation = rotation * phases[:, None, :]
     triangles = np.triu(triangles * phases.conj()[:, :, None])
-    np.einsum("cii->ci", triangles)[...] = size
-    samples = np.einsum("cak,sca->sck", rotation.conj(), vectors, optimize=True)
-    triangles[erased] = 0
-    samples[:, erased] = 0
+    _diagonal(triangles)[...] = size
+    turn = (rotation * phases[:, None, :]).conj()
+    samples = np.ascontiguousarray(np.matmul(vectors.transpose(1, 0, 2), turn).transpose(1, 0, 2))
+    if erased.any():
+        triangles[erased] = 0
+        samples[:, erased] = 0
     return triangles, samples
 
 
-def _rounded(values: np.ndarray) -> np.ndarray:
-    return np.rint(values.real) + 1j * np.rint(values.imag)
+def _diagonal(triangles: np.ndarray) -> np.ndarray:
+    """The diagonals of triangles, which can be written: shape (subcarriers, streams)."""
+    return np.einsum("cii->ci", triangles)
+
+
+def _parts(values: np.ndarray) -> np.ndarray:
+    """The parts of complex numbers, the last axis twice as long: float64."""
+    return np.ascontiguousarray(values, complex).view(float)
+
+
+def _rounded(values: np.ndarray, gain: float) -> np.ndarray:
+    """Values times a gain, their parts rounded."""
+    parts = gain * _parts(values)
+    return np.rint(parts, out=parts).view(complex)
+
+
+def _above(triangles: np.ndarray) -> np.ndarray:
+    """Triangles with zeros on the diagonal."""
+    made = triangles.copy()
+    _diagonal(made)[...] = 0
+    return made
 
 
 def _largest_gain(triangles: np.ndarray, samples: np.ndarray) -> float:
     """The largest gain with which no part leaves its field; 1 where all is 0."""
-    diagonal = np.einsum("cii->ci", triangles).real
-    above = triangles - np.einsum("ci,ij->cij", diagonal, np.eye(diagonal.shape[-1]))
-    used = [np.max(diagonal) / DIAGONAL_LIMIT, _share(above, ENTRY_LIMITS), _share(samples, SAMPLE_LIMITS)]
+    used = [_diagonal(triangles).real.max() / DIAGONAL_LIMIT, _share(_above(triangles), ENTRY_LIMITS), _share(samples, SAMPLE_LIMITS)]
     return 1 / max(used) if max(used) > 0 else 1.0
 
 
 def _soft_gain(rate: Rate, triangles: np.ndarray) -> float:
     """The gain at which the median of the diagonals of data subcarriers is `SOFT_DIAGONAL`, of those that aren't 0."""
-    diagonals = np.einsum("cii->ci", triangles).real[~rate.is_pilot]
+    diagonals = _diagonal(triangles).real[~rate.is_pilot]
     heard = diagonals[diagonals > 0]
     return SOFT_DIAGONAL / float(np.median(heard)) if heard.size else np.inf
 
 
 def _share(values: np.ndarray, limits) -> float:
     low, high = limits
-    parts = np.stack((values.real, values.imag))
-    return max(np.max(parts) / high, np.min(parts) / low)
+    parts = _parts(values)
+    return max(parts.max() / high, parts.min() / low)
 
 
 def _check_finite(number: int, channel: np.ndarray, received: np.ndarray, erased: np.ndarray) -> None:
+    if np.isfinite(channel).all() and np.isfinite(received).all():
+        return
     good = np.isfinite(channel) | erased[:, None, None]
     if not good.all():
         carrier, antenna, stream = np.argwhere(~good)[0]
@@ -282,6 +305,8 @@ def _check_finite(number: int, channel: np.ndarray, received: np.ndarray, erased
 
 
 def _check_fit(number: int, triangles: np.ndarray, samples: np.ndarray, gain: float) -> None:
+    if _within(_diagonal(triangles), 0, DIAGONAL_LIMIT).all() and _share(_above(triangles), ENTRY_LIMITS) <= 1 and _share(samples, SAMPLE_LIMITS) <= 1:
+        return
     streams = triangles.shape[-1]
     for row in range(streams):
         for column in range(row, streams):

@@ -115,7 +115,7 @@ class Rate:
     @property
     def data_bits(self) -> int:
         """The number of data bits in a symbol, N_DBPS."""
-        return int(self.coded_bits * self.coding_rate)
+        return _data_bits(self)
 
     @property
     def encoders(self) -> int:
@@ -221,6 +221,11 @@ def polarity() -> np.ndarray:
     signs = 1 - 2 * scrambling_sequence(127).astype(np.int8)
     signs.setflags(write=False)
     return signs
+
+
+@lru_cache(maxsize=None)
+def _data_bits(rate: Rate) -> int:
+    return int(rate.coded_bits * rate.coding_rate)
 
 
 @lru_cache(maxsize=None)

@@ -21,9 +21,9 @@ from .files import naming
 from .formats import CaptureFrame, read_htcp
 from .judge import Judgement, judge
 from .air import verdict_pictures
-from .air.limits import EDITION
+from .air.limits import EDITION, REMARK
 from .air.recording import Recording
-from .air.transmitter import PASS, Finding, Measured, findings
+from .air.transmitter import FAIL, PASS, Finding, Measured, channels_of, findings
 from .measures import Magnitudes, constellation_tests, decibels, evm, percent, residual_ratio
 from .packets import Psdu, take_apart
 from .pictures import BLUE, INK, ORANGE, STYLE, chi_square_law, constellation_panel, error_curves, matplotlib_of, over_subcarriers_panel
@@ -154,7 +154,7 @@ class RecordingReport:
 
 
 def examine_recording(recording: Recording, name: str, packets: Sequence[Measured], frequency: Optional[float],
-                      reference: Optional[float]) -> RecordingReport:
+                      reference: Optional[float], said: Sequence[Tuple[str, str]] = ()) -> RecordingReport:
     """Hold the packets of a recording beside the standard's limits, and draw them.
 
     Parameters
@@ -166,6 +166,8 @@ def examine_recording(recording: Recording, name: str, packets: Sequence[Measure
         Of the carrier in Hz.
     reference : float, optional
         By how many parts per million the recorder's own clock may be wrong.
+    said : sequence of (str, str)
+        What the recording's metadata say of how it was made.
     """
     rate = recording.layout.rate
     found = findings(packets, frequency, reference, rate)
@@ -174,12 +176,24 @@ def examine_recording(recording: Recording, name: str, packets: Sequence[Measure
                          f"{rate / 1e6:g} million a second, {recording.seconds(recording.length):.6f} s"),
              ("carrier", "not known" if frequency is None else f"{frequency / 1e6:g} MHz"), ("packets", str(len(packets))),
              ("offset of the carrier", f"{np.mean(offsets):+.3f} kHz in the mean, {min(offsets):+.3f} to {max(offsets):+.3f} kHz"),
-             ("noise of a subcarrier", f"{np.mean(noises):.1f} dB in the mean, {min(noises):.1f} to {max(noises):.1f} dB")]
-    made = RecordingReport(name, facts, found)
-    for bandwidth in sorted({packet.rate.bandwidth for packet in packets}):
-        alike = [packet for packet in packets if packet.rate.bandwidth == bandwidth]
-        made.pictures += [(f"{what}, {bandwidth} MHz", _png(figure)) for what, figure in verdict_pictures.drawn(alike, frequency, rate)]
+             ("noise of a subcarrier", f"{np.mean(noises):.1f} dB beside the signal in the mean, {min(noises):.1f} to {max(noises):.1f} dB"),
+             ("the recorder's own clock", "by how much it may be wrong isn't said" if reference is None else f"wrong by at most {reference:g} ppm, as was said"),
+             *said]
+    made = RecordingReport(name, [("tests", _summed_up(found)), *facts], found)
+    for channel, alike in channels_of(packets):
+        made.pictures += [(f"{what}, {channel}", _png(figure)) for what, figure in verdict_pictures.drawn(alike, frequency, rate)]
     return made
+
+
+def _summed_up(found: Sequence[Finding]) -> str:
+    """How many tests have which verdict, and the names of those that don't pass."""
+    asked = [finding for finding in found if not finding.is_for_show]
+    parts = [f"{sum(finding.verdict == PASS for finding in asked)} of {len(asked)} pass"]
+    for verdict, word in ((FAIL, "fail"), (None, "without a verdict")):
+        names = [finding.limit.test for finding in asked if finding.verdict == verdict]
+        if names:
+            parts.append(f"{len(names)} {word} ({', '.join(dict.fromkeys(names))})")
+    return "; ".join(parts)
 
 
 # pictures
@@ -232,6 +246,7 @@ def _png(figure) -> str:
 
 # the page
 
+SIGNED = ("device under test", "recorder, with the date of its calibration", "tested by", "date", "signature")
 STYLES = """
 :root { color-scheme: light; }
 * { box-sizing: border-box; }
@@ -255,9 +270,12 @@ td.number { white-space: nowrap; }
 .open::before { content: "?\\00a0"; } .open { color: #555; }
 .sign td { height: 2.5rem; }
 .bad::before { content: "\\2717\\00a0"; } .bad { color: #a63c00; font-weight: 600; }
+table { font-size: .875rem; }
+.one td:nth-child(5), .one td:nth-child(7) { white-space: nowrap; }
+figcaption { padding: .15rem .35rem; font-size: .8rem; color: #555; }
 .pictures { display: flex; flex-wrap: wrap; gap: .75rem; align-items: flex-start; }
-figure { margin: 0; border: 1px solid #ddd; border-radius: 4px; padding: .25rem; max-width: 100%; }
-figure img { display: block; max-width: 100%; height: auto; }
+figure { margin: 0; border: 1px solid #ddd; border-radius: 4px; padding: .25rem; max-width: 100%; width: min-content; }
+figure img { display: block; max-width: calc(100vw - 3rem); height: auto; }
 @media (max-width: 45rem) {
   .facts { grid-template-columns: 1fr; gap: 0; }
   .facts dd { margin-bottom: .35rem; }
@@ -266,7 +284,8 @@ figure img { display: block; max-width: 100%; height: auto; }
   td, td.number { display: grid; grid-template-columns: 8rem 1fr; padding: .1rem 0; border: 0; text-align: left; overflow-wrap: anywhere; }
   td::before { content: attr(data-name); color: #555; }
 }
-@media print { .wide { overflow: visible; } figure { break-inside: avoid; } }
+@media print { .wide { overflow: visible; } figure, tr { break-inside: avoid; } body { max-width: none; padding: 0; font-size: 12px; } }
+@page { margin: 15mm; }
 """
 
 
@@ -296,16 +315,17 @@ def page(captures: Sequence[CaptureReport], title: str = "Captures, measured", f
              "this page and its measures are tested and not proved.</p>"]
     if facts:
         parts += ['<dl class="facts">', *(f"<dt>{_text(name)}</dt><dd><code>{_text(value)}</code></dd>" for name, value in facts), "</dl>"]
+    figures = _Figures()
+    for recording in recordings:
+        parts += _recording_parts(recording, figures)
     if len(captures) > 1:
         parts += _table(("capture", "#frames", "MPDUs with a good FCS", "EVM"), (_overview(each) for each in captures))
     for each in captures:
-        parts += _capture_parts(each)
-    for recording in recordings:
-        parts += _recording_parts(recording)
+        parts += _capture_parts(each, figures)
     for name, found in sweeps:
-        parts += _sweep_parts(name, found)
+        parts += _sweep_parts(name, found, figures)
     if recordings:
-        parts += ["<h2>Signed</h2>", *_table(("name", "date", "signature"), [["&nbsp;"] * 3])[:-1], "</table></div>"]
+        parts += ["<h2>Signed</h2>", *_table(SIGNED, [["&nbsp;"] * len(SIGNED)], "sign")]
     return "\n".join([*parts, "</body>", "</html>", ""])
 
 
@@ -318,14 +338,15 @@ def _verdict(good: Optional[bool], text: object) -> str:
     return f'<span class="{"open" if good is None else "good" if good else "bad"}">{_text(text)}</span>'
 
 
-def _table(names: Sequence[str], rows: Iterable[Sequence[str]]) -> List[str]:
-    """A table; names that begin with # are of numbers, and cells are HTML."""
+def _table(names: Sequence[str], rows: Iterable[Sequence[str]], kind: str = "") -> List[str]:
+    """A table; names that begin with # are of numbers, and cells are HTML. Of the kind ``one`` magnitudes stand on one line each."""
     kinds = [' class="number"' if name.startswith("#") else "" for name in names]
     head = "".join(f"<th{kind}>{_text(name.lstrip('#'))}</th>" for kind, name in zip(kinds, names))
     told = [_text(name.lstrip("#")) for name in names]
     lines = ["<tr>" + "".join(f'<td{kind} data-name="{name}"><span>{cell}</span></td>' for kind, name, cell in zip(kinds, told, row)) + "</tr>"
              for row in rows]
-    return ['<div class="wide"><table>', f"<thead><tr>{head}</tr></thead>", "<tbody>", *lines, "</tbody>", "</table></div>"]
+    shape = f' class="{kind}"' if kind else ""
+    return [f'<div class="wide"><table{shape}>', f"<thead><tr>{head}</tr></thead>", "<tbody>", *lines, "</tbody>", "</table></div>"]
 
 
 def _mpdus(capture: CaptureReport) -> Tuple[int, int]:
@@ -340,10 +361,10 @@ def _overview(capture: CaptureReport) -> Sequence[str]:
 
 def _tests(capture: CaptureReport) -> List[str]:
     tests = constellation_tests((frame.rate, frame.symbols, frame.standard.frame) for frame in capture.frames)
-    return [_verdict(test.is_within if test.is_full or not test.is_within else None, test) for test in tests]
+    return [_verdict(test.is_within if test.is_full else None, test) for test in tests]
 
 
-def _capture_parts(capture: CaptureReport) -> List[str]:
+def _capture_parts(capture: CaptureReport, figures: "_Figures") -> List[str]:
     good, count = _mpdus(capture)
     facts = [("octets", f"{capture.octets:,}"), ("SHA-256", f"<code>{capture.digest}</code>"), ("frames", str(len(capture.frames))),
              ("MPDUs", _verdict(good == count, f"{good} of {count} with a good FCS")), ("EVM", "<br>".join(_tests(capture)) or "none")]
@@ -353,43 +374,53 @@ def _capture_parts(capture: CaptureReport) -> List[str]:
     names = ["#frame", "rate", "#octets", "#symbols", "EVM", "#limit", "residual ratio", "#code distance", "MPDUs"]
     theirs = _theirs(capture.judgement)
     names += ["the other receiver"] if theirs is not None else []
-    parts += ["<h3>Frames</h3>", *_table(names, (_row(frame, theirs) for frame in capture.frames))]
+    parts += ["<h3>Frames</h3>", *_table(names, (_row(frame, theirs) for frame in capture.frames), "one")]
     carried = (row for frame in capture.frames for row in _mpdu_rows(frame))
     parts += ["<h3>What they carry</h3>", *_table(("#frame", "#MPDU", "#octets", "FCS", "MAC header"), carried)]
     for frame in capture.frames:
         if frame.pictures:
-            parts += [f"<h3>Frame {frame.number}</h3>", *_figures((f"frame {frame.number}, {what}", picture) for what, picture in frame.pictures)]
+            parts += [f"<h3>Frame {frame.number}</h3>", *figures.beside((f"frame {frame.number}, {what}", picture) for what, picture in frame.pictures)]
     return parts
 
 
-def _figures(pictures: Iterable[Tuple[str, str]]) -> List[str]:
-    """Pictures beside one another, each with what it shows."""
-    parts = ['<div class="pictures">']
-    for what, picture in pictures:
-        name = _text(what)
-        parts.append(f'<figure><img alt="{name}" title="{name}" src="data:image/png;base64,{picture}" width="{_width(picture)}"></figure>')
-    return [*parts, "</div>"]
+class _Figures:
+    """The figures of a page, numbered from 1."""
+
+    def __init__(self) -> None:
+        self.count = 0
+
+    def beside(self, pictures: Iterable[Tuple[str, str]]) -> List[str]:
+        """Pictures beside one another, each with its number and what it shows."""
+        parts = ['<div class="pictures">']
+        for what, picture in pictures:
+            self.count += 1
+            name = _text(what)
+            parts.append(f'<figure><img alt="{name}" src="data:image/png;base64,{picture}" width="{_width(picture)}">'
+                         f"<figcaption>Figure {self.count}: {name}</figcaption></figure>")
+        return [*parts, "</div>"]
 
 
-def _recording_parts(recording: RecordingReport) -> List[str]:
+def _recording_parts(recording: RecordingReport, figures: _Figures) -> List[str]:
     names = ("test", "clause", "about", "limit", "#value", "95 %", "frames", "verdict")
     parts = [f"<h2>{_text(recording.name)}</h2>", '<dl class="facts">', *(f"<dt>{_text(name)}</dt><dd>{_text(what)}</dd>" for name, what in recording.facts),
-             "</dl>", f"<h3>Transmitter tests of {_text(EDITION)}</h3>", *_table(names, map(_finding_row, recording.findings))]
-    return [*parts, *_figures(recording.pictures)]
+             "</dl>", f"<h3>Transmitter tests of {_text(EDITION)}</h3>", *_table(names, map(_finding_row, recording.findings)),
+             f'<p class="quiet">{_text(REMARK)}</p>']
+    return [*parts, *figures.beside(recording.pictures)]
 
 
 def _finding_row(finding: Finding) -> List[str]:
     low, high = finding.interval
     where = f" at {finding.where}" if finding.where else ""
     good = None if finding.verdict is None else finding.verdict == PASS
-    asked = f"{finding.frames} of {finding.limit.frames}" + ("" if finding.limit.named else "; the clause names no number")
+    asked = f"{finding.frames}, {finding.limit.frames} asked for" + ("" if finding.limit.named else "; the clause names no number")
+    verdict = f'<span class="quiet">{_text(finding.unsure)}</span>' if finding.is_for_show else _verdict(good, finding.outcome)
     return [_text(finding.limit.test), finding.limit.clause, _text(finding.subject + where), _text(finding.bounds), f"{finding.value:.2f} {finding.unit}",
-            f"{low:.2f} to {high:.2f}", asked, _verdict(good, finding.outcome)]
+            f"{low:.2f} to {high:.2f}" if finding.frames > 1 else "one frame gives none", asked, verdict]
 
 
-def _sweep_parts(name: str, found: Sweep) -> List[str]:
+def _sweep_parts(name: str, found: Sweep, figures: _Figures) -> List[str]:
     matplotlib_of()
-    parts = [f"<h2>{_text(name)}</h2>", f"<p>{_text(found.title())}</p>", *_figures([("error rates over the signal-to-noise ratio", _png(error_curves(found)))])]
+    parts = [f"<h2>{_text(name)}</h2>", f"<p>{_text(found.title())}</p>", *figures.beside([("error rates over the signal-to-noise ratio", _png(error_curves(found)))])]
     return parts
 
 
@@ -412,7 +443,7 @@ def _width(picture: str) -> int:
 def _row(frame: FrameReport, theirs: Optional[Dict[int, str]]) -> List[str]:
     limit = frame.rate.error_limit
     erased = f", {frame.erased} subcarriers erased" if frame.erased else ""
-    magnitude = _verdict(bool(decibels(frame.standard.frame) <= limit), percent(frame.standard.frame))
+    magnitude = _text(percent(frame.standard.frame))  # the limit is that of many frames, so one has no verdict
     psdu = frame.psdu
     if psdu is None:
         carries = _verdict(False, "no octets")

@@ -21,6 +21,7 @@ from .answers import NUMBER, PLACE, Refused, SoftAnswer, blocks, read_answers, s
 from .causes import Looks
 from .errors import FormatError, InputError
 from .files import Source, naming
+from .inside import Inside, SoftTexts, receiver
 from .program import Radio
 from .theirs import REPEATED, THEIR_END, UNREADABLE, LineCounts, LineFault, misplaced
 
@@ -85,7 +86,7 @@ class SoftCounts(LineCounts):
 
 
 def judged_soft(capture: Source, answers: Source, counts: SoftCounts, *, reference: Optional[Source] = None,
-                radio: Optional[Radio] = None) -> Iterator[Union[SoftVerdict, LineFault]]:
+                radio: Optional[Union[Inside, Radio]] = None) -> Iterator[Union[SoftVerdict, LineFault]]:
     """Judge another soft decoder's octets, in the order of frames.
 
     Parameters
@@ -96,9 +97,9 @@ def judged_soft(capture: Source, answers: Source, counts: SoftCounts, *, referen
     counts : SoftCounts
         Each verdict is added to it, and so is each frame without one, and the causes.
     reference : path, bytes or binary stream, optional
-        Lines of ``radio soft`` on the capture, where they are kept; otherwise the program is run.
-    radio : Radio, optional
-        The program, where it isn't to be looked for.
+        Lines of ``radio soft`` on the capture, where they are kept; otherwise the library is called, or the program is run.
+    radio : Inside or Radio, optional
+        The library or the program, where it isn't to be looked for.
 
     Raises
     ------
@@ -144,10 +145,15 @@ def judged_soft(capture: Source, answers: Source, counts: SoftCounts, *, referen
 
 
 @contextmanager
-def _lines(capture: Source, reference: Optional[Source], radio: Optional[Radio]):
+def _lines(capture: Source, reference: Optional[Source], radio: Optional[Union[Inside, Radio]]):
     if reference is None:
-        with naming(capture), (radio or Radio()).answers("soft", capture) as answers:
-            yield answers
+        known = radio or receiver()
+        with naming(capture):
+            if isinstance(known, Inside):
+                yield SoftTexts(known, capture)
+                return
+            with known.answers("soft", capture) as answers:
+                yield answers
     else:
         with naming(reference):
             yield read_answers(reference)

@@ -16,10 +16,10 @@ from .files import Target, writing
 from .tables import write_csv
 
 BITS, LABELS, POINTS, OCTETS, SAMPLES = "bits", "labels", "points", "octets", "samples"  # what a stage's values are
-LIBRARY, TOOLS = "library", "tools"  # where they come from
+LIBRARY, PROGRAM, TOOLS = "library", "program", "tools"  # where they come from
 ERASED_BIT, ERASED_LABEL = 2, 255
 COLUMNS = ("frame", "stage", "source", "symbol", "encoder", "stream", "chain", "subcarrier", "index", "value", "i", "q")
-SOURCES = {LIBRARY: "by the proved library", TOOLS: "by these tools, tested and not proved"}
+SOURCES = {LIBRARY: "by the proved library", PROGRAM: "by the proved program radio", TOOLS: "by these tools, tested and not proved"}
 FRACTION = 1024  # units of a sample's part in a word
 WORDS = {POINTS: "; I and Q of 8 bits each", SAMPLES: f"; I and Q of 16 bits each in units of 1/{FRACTION}"}
 
@@ -43,7 +43,7 @@ class Stage:
     values : ndarray
         Over these axes; points have one axis more.
     source : str
-        LIBRARY or TOOLS.
+        LIBRARY, PROGRAM or TOOLS.
     factors : ndarray of float64, optional
         Of points: what each subcarrier's are multiplied with when they are sent, K_MOD, or 1 of pilots (clause 18.3.5.8).
     """

@@ -5,6 +5,10 @@ bits are moved here to the places that it names and dealt to two encoders, and o
 forwards the stages are held to the points of the library's own transmitter: as no stage loses anything, equal points have equal
 bits in front of them. Backwards the octets and the distance are held to those that the library decodes in one call.
 
+Where there is no library the program `radio` gives what its commands write: the points that are sent, of clause 18 those of a
+capture without noise divided by its diagonals, and backwards the nearest points and the octets. All other stages are left out, and
+named: no second implementation stands in for the library.
+
 IEEE Std 802.11-2012, clauses 18.3.5 and 20.3.11; docs/CHAIN.md of the repository has the formulas.
 """
 
@@ -15,17 +19,21 @@ from typing import Dict, Iterator, List, Optional, Tuple, Union
 
 import numpy as np
 
-from . import clause18, library
+from . import clause18
 from .air.signal import LegacySignal
 from .air.waveform import Clock, legacy_packet, packet
-from .answers import read_answers
+from .answers import FrameAnswer, Jobs, read_answers
 from .clause18 import LegacyCaptured, LegacyRate, LegacySent, read_lgcp, read_lgtx
-from .errors import FormatError, InputError, MizgaureError
+from .errors import FormatError, InputError, MizgaureError, ProgramError
 from .files import fronted, repeatable
-from .formats import CaptureFrame, SentFrame, SymbolsFrame, read_htcp, read_httx
+from .formats import CaptureFrame, SentFrame, SymbolsFrame, read_htcp, read_htsy, read_httx
+from .inside import detected, library
+from .program import Radio
 from .rates import Rate
-from .stage_files import BITS, ERASED_BIT, ERASED_LABEL, LABELS, LIBRARY, OCTETS, POINTS, SAMPLES, TOOLS, Stage, Staged
+from .stage_files import BITS, ERASED_BIT, ERASED_LABEL, LABELS, LIBRARY, OCTETS, POINTS, PROGRAM, SAMPLES, TOOLS, Stage, Staged
 
+SENT_STAGES = ("scrambled", "coded", "punctured", "parsed", "interleaved")  # that the library alone gives
+RECEIVED_STAGES = ("points", "labels", "demapped", "deinterleaved", "gathered", "depunctured", "decoded", "descrambled")
 SERVICE, SEED_BITS, TAIL = 16, 7, 6
 PATTERNS = {2: 0, 3: 1, 4: 2, 6: 3}  # the library's number of a puncturing pattern, by the coding rate's denominator
 
@@ -108,7 +116,7 @@ Chain = Union[HtChain, LegacyChain]
 Frame = Union[SentFrame, LegacySent, CaptureFrame, LegacyCaptured]
 
 
-def stages_of(source, only: Optional[int] = None) -> Iterator[Staged]:
+def stages_of(source, only: Optional[int] = None, radio: Optional[Radio] = None) -> Iterator[Staged]:
     """The stages of each frame of a file: forwards of HTTX and LGTX, backwards of HTCP and LGCP. Another is refused as HTTX.
 
     Parameters
@@ -116,28 +124,37 @@ def stages_of(source, only: Optional[int] = None) -> Iterator[Staged]:
     source : path, ``"-"``, bytes or binary stream
     only : int, optional
         The number of the one frame that is asked for.
+    radio : Radio, optional
+        The program that gives what there is; by default the library does.
 
     Raises
     ------
     FormatError
         At the file's first fault.
     InputError
-        If there is no frame of that number.
+        If there is no frame of that number, or no library and no program is given.
+    ProgramError
+        If the program fails.
     """
+    if library is None and radio is None:
+        raise InputError("there is no proved library, and no program is named")
     source = repeatable(source)
     with fronted(source, 4) as (front, _):
         reader = {b"LGTX": read_lgtx, b"HTCP": read_htcp, b"LGCP": read_lgcp}.get(front, read_httx)
-    known = _legacy_answers(source) if front == b"LGCP" else {}
+    known: Iterator = iter(()) if radio is None else _of_program(radio, front, source)
+    if radio is None and front == b"LGCP":
+        known = _legacy_answers(source)
     found = False
     for number, frame in enumerate(reader(source)):
+        given = next(known, None)
         if only is None or number == only:
             found = True
-            yield _staged(number, frame, known.get(number))
+            yield _staged(number, frame, given, radio is not None)
     if only is not None and not found:
         raise InputError(f"there is no frame {only} in it")
 
 
-def _staged(number: int, frame: Frame, known) -> Staged:
+def _staged(number: int, frame: Frame, known, by_program: bool) -> Staged:
     legacy = isinstance(frame.rate, LegacyRate)
     chain = LegacyChain(frame.rate) if legacy else HtChain(frame.rate)
     length = frame.length if hasattr(frame, "length") else len(frame.octets)
@@ -146,7 +163,10 @@ def _staged(number: int, frame: Frame, known) -> Staged:
     text = f"{frame.rate}, {length} octet{'s' * (length != 1)}"
     if isinstance(frame, (SentFrame, LegacySent)):
         numbers["seed"], text = frame.seed, f"{text}, seed {frame.seed}"
-        stages, left_out = _sent(chain, bytes(frame.octets), frame.seed)
+        make = _sent_by_program if by_program else _sent
+        stages, left_out = make(chain, bytes(frame.octets), *((known,) if by_program else (frame.seed,)))
+    elif by_program:
+        stages, left_out = _received_by_program(chain, length, frame, known)
     else:
         labels, erased = _legacy_labels(frame) if legacy else _labels(frame)
         stages, left_out = _received(chain, length, labels, erased, known)
@@ -158,9 +178,8 @@ def _staged(number: int, frame: Frame, known) -> Staged:
 def _sent(chain: Chain, octets: bytes, seed: int) -> Tuple[List[Stage], List[str]]:
     points = chain.transmit(seed, octets)
     symbols, streams = np.arange(len(points)), np.arange(1, chain.streams + 1)
-    data = np.zeros(symbols.size * chain.data_bits, np.bool_)
+    data = _data_bits(chain, octets, symbols.size)
     end = SERVICE + 8 * len(octets)
-    data[SERVICE:end] = np.unpackbits(np.frombuffer(octets, np.uint8), bitorder="little")
     scrambled = library.scramble(seed, data)
     scrambled[end : end + TAIL * chain.encoders] = False
     inputs = np.ascontiguousarray(scrambled.reshape(-1, chain.encoders).T)
@@ -172,24 +191,50 @@ def _sent(chain: Chain, octets: bytes, seed: int) -> Tuple[List[Stage], List[str
         interleaved[:, stream, chain.places(stream + 1)] = parsed[:, stream]
     _hold(chain, interleaved, points)
     axes, encoders = {"symbol": symbols, "stream": streams}, {"encoder": np.arange(chain.encoders)}
-    stages = [
-        _bits(chain, "data", "SERVICE, PSDU, tail and padding", data, {}, source=TOOLS),
+    middle = [
         _bits(chain, "scrambled", "with the seed's sequence added, the tail zero again", scrambled, {}),
         _bits(chain, "coded", "A0 B0 A1 B1 .. of each encoder, before puncturing", coded, encoders),
         _bits(chain, "punctured", "what is kept of them", punctured, {"symbol": symbols, **encoders}),
         _bits(chain, "parsed", "dealt to the spatial streams", parsed, axes),
         _bits(chain, "interleaved", "in the order of labels, from the lowest data subcarrier on", interleaved, axes),
+    ]
+    stages, left_out = _around(chain, data, middle, points, len(octets), LIBRARY)
+    return _there(chain, stages), left_out
+
+
+def _sent_by_program(chain: Chain, octets: bytes, points: np.ndarray) -> Tuple[List[Stage], List[str]]:
+    stages, left_out = _around(chain, _data_bits(chain, octets, len(points)), [], points, len(octets), PROGRAM)
+    return stages, [_without(chain, SENT_STAGES), *left_out]
+
+
+def _data_bits(chain: Chain, octets: bytes, symbols: int) -> np.ndarray:
+    """SERVICE, PSDU, tail and padding."""
+    data = np.zeros(symbols * chain.data_bits, np.bool_)
+    data[SERVICE : SERVICE + 8 * len(octets)] = np.unpackbits(np.frombuffer(octets, np.uint8), bitorder="little")
+    return data
+
+
+def _around(chain: Chain, data: np.ndarray, middle: List[Stage], points: np.ndarray, length: int, source: str) -> Tuple[List[Stage], List[str]]:
+    """The stages in front of some others and behind them, and why one is left out: data, points, and time samples."""
+    streams, left_out = np.arange(1, chain.streams + 1), []
+    stages = [
+        _bits(chain, "data", "SERVICE, PSDU, tail and padding", data, {}, source=TOOLS), *middle,
         Stage("points", f"on the grid of odd numbers{chain.own}; those that are sent beside them (clause {chain.clauses['points']})", POINTS,
-              {"symbol": symbols, "subcarrier": chain.frequencies, "stream": streams}, points,
+              {"symbol": np.arange(len(points)), "subcarrier": chain.frequencies, "stream": streams}, points, source,
               factors=np.where(chain.is_pilot, 1, chain.constellation.normalising_factor)),
     ]
-    left_out = []
     try:
-        samples, text = chain.samples(points, len(octets))
+        samples, text = chain.samples(points, length)
         stages.append(Stage("samples", f"time samples {text}", SAMPLES, {"chain": streams, "index": np.arange(samples.shape[1])}, samples, TOOLS))
     except InputError as error:
         left_out.append(f"samples: {error}")
-    return _there(chain, stages), left_out
+    return stages, left_out
+
+
+def _without(chain: Chain, names: Tuple[str, ...]) -> str:
+    """That stages are left out, for want of the library."""
+    there = [name for name in names if "parsed" in chain.clauses or name not in ("parsed", "gathered")]
+    return f"{', '.join(there)}: the library alone gives them (docs/LIBRARY.md), and these values are the program's"
 
 
 def _bits(chain: Chain, name: str, text: str, values: np.ndarray, axes: Dict[str, np.ndarray], of: str = "", source: str = LIBRARY) -> Stage:
@@ -234,8 +279,7 @@ def _received(chain: Chain, length: int, labels: np.ndarray, erased: np.ndarray,
     points[:, erased] = 0
     differ = sum(distance for _, distance in found)
     stages = [
-        Stage("points", f"the first nearest ones of the data subcarriers, (0, 0) where erased (clause {chain.clauses['points']})", POINTS,
-              {"symbol": symbols, "subcarrier": data, "stream": streams}, points, factors=np.full(data.size, chain.constellation.normalising_factor)),
+        _nearest(chain, points, LIBRARY),
         Stage("labels", f"of these points (clause {chain.clauses['points']})", LABELS, {"symbol": symbols, "subcarrier": data, "stream": streams},
               np.where(erased[:, None], np.uint8(ERASED_LABEL), labels)),
         _bits(chain, "demapped", "the bits of the labels", demapped, axes, "points"),
@@ -259,6 +303,53 @@ def _received(chain: Chain, length: int, labels: np.ndarray, erased: np.ndarray,
     if whole != ((None, whole[1]) if octets is None else (octets.tobytes(), differ)):
         raise MizgaureError("the stages don't lead to the octets that the library decodes in one call")
     return _there(chain, stages), left_out
+
+
+def _received_by_program(chain: Chain, length: int, frame: Frame, known: Tuple[Optional[Jobs], FrameAnswer]) -> Tuple[List[Stage], List[str]]:
+    jobs, answer = known
+    stages, names = [], RECEIVED_STAGES
+    if jobs is not None:
+        names = names[1:]
+        points = np.zeros((*frame.samples.shape, 2), np.int8)
+        points[jobs.symbol, jobs.carrier, :, 0], points[jobs.symbol, jobs.carrier, :, 1] = jobs.points.real, jobs.points.imag
+        stages.append(_nearest(chain, points[:, ~chain.is_pilot], PROGRAM))
+    left_out = [_without(chain, names)]
+    if answer.octets is None:
+        left_out.append("octets: the first seven bits are those of no seed")
+    else:
+        text = f"of the PSDU, at {answer.code} differences in all (clause {chain.clauses['data']})"
+        stages.append(Stage("octets", text, OCTETS, {"index": np.arange(length)}, np.frombuffer(answer.octets, np.uint8), PROGRAM))
+    return stages, left_out
+
+
+def _nearest(chain: Chain, points: np.ndarray, source: str) -> Stage:
+    """The stage of the nearest points of data subcarriers."""
+    data = chain.frequencies[~chain.is_pilot]
+    return Stage("points", f"the first nearest ones of the data subcarriers, (0, 0) where erased (clause {chain.clauses['points']})", POINTS,
+                 {"symbol": np.arange(len(points)), "subcarrier": data, "stream": np.arange(1, chain.streams + 1)}, points, source,
+                 factors=np.full(data.size, chain.constellation.normalising_factor))
+
+
+def _of_program(radio: Radio, front: bytes, source) -> Iterator:
+    """What the program says of each frame: the points that are sent, or the nearest ones and the octets."""
+    with fronted(source, 0) as (_, stream):
+        octets = stream.read()
+    if front == b"HTCP":
+        return zip(radio.detect(octets), radio.rx(octets))
+    if front == b"LGCP":
+        return ((None, answer) for answer in radio.lrx(octets))
+    if front == b"LGTX":
+        return (_divided(frame) for frame in read_lgcp(radio.made("lchannel", octets)))
+    return (np.stack((frame.points.real, frame.points.imag), axis=-1).astype(np.int8) for frame in read_htsy(radio.tx(octets)))
+
+
+def _divided(frame: LegacyCaptured) -> np.ndarray:
+    """The points of a capture without noise, which its samples are by the diagonals: shape (symbols, 52, 1, 2)."""
+    diagonal = frame.diagonal.astype(np.int32)[:, None]
+    points = frame.samples // diagonal
+    if not np.array_equal(points * diagonal, frame.samples):
+        raise ProgramError("the program's capture without noise has no whole points")
+    return points[:, :, None].astype(np.int8)
 
 
 def _gathered(chain: Chain, bits: np.ndarray) -> np.ndarray:
@@ -297,27 +388,19 @@ def _decoded(chain: HtChain, length: int, labels: np.ndarray, erased: np.ndarray
         return None, 0
 
 
-def _legacy_answers(source) -> Dict[int, Tuple[Optional[bytes], int]]:
-    """The octets of each frame of a capture of clause 18 in one call of the library."""
+def _legacy_answers(source) -> Iterator[Tuple[Optional[bytes], int]]:
+    """The octets of each frame of a capture of clause 18 in one call of the library, and at how many places they differ."""
     with fronted(source, 0) as (_, stream):
         try:
             answers = read_answers(library.lrx(stream.read()))
         except library.Refused as refused:
             raise FormatError(refused.kind, refused.offset) from refused
-        return {answer.frame: (answer.octets, answer.code) for answer in answers}
+        return ((answer.octets, answer.code) for answer in answers)
 
 
 def _detected(rate: Rate, triangles: np.ndarray, samples: np.ndarray) -> np.ndarray:
-    """The labels of data subcarriers, (symbols, subcarriers, streams), from channels and samples, whose last axis are parts."""
-    streams, count = rate.streams, len(triangles)
-    channels, received = np.zeros(count, library.CHANNEL), np.zeros((len(samples), count, 4, 2), np.int32)
-    rows, columns = np.triu_indices(streams, 1)
-    above = triangles[:, rows, columns]
-    channels["diagonal"][:, :streams] = np.einsum("cii->ci", triangles).real
-    channels["above"]["re"][:, : rows.size], channels["above"]["im"][:, : rows.size] = above.real, above.imag
-    received[:, :, :streams] = samples
-    hits = library.detect_symbols(rate, channels, received)
-    return library.labels(rate.bits_per_point, np.ascontiguousarray(hits["points"][:, :, :streams]))
+    """The labels of data subcarriers, (symbols, subcarriers, streams), from channels and samples."""
+    return library.labels(rate.bits_per_point, np.ascontiguousarray(detected(rate, triangles, samples)["points"][:, :, : rate.streams]))
 
 
 def _labels(frame: CaptureFrame) -> Tuple[np.ndarray, np.ndarray]:
@@ -326,12 +409,12 @@ def _labels(frame: CaptureFrame) -> Tuple[np.ndarray, np.ndarray]:
     erased = np.asarray(frame.erased)[data]
     labels = np.zeros((len(frame.samples), erased.size, frame.rate.streams), np.uint8)
     if not erased.all():
-        samples = frame.samples[:, data][:, ~erased]
-        labels[:, ~erased] = _detected(frame.rate, frame.triangles[data][~erased], np.stack((samples.real, samples.imag), axis=-1))
+        labels[:, ~erased] = _detected(frame.rate, frame.triangles[data][~erased], frame.samples[:, data][:, ~erased])
     return labels, erased
 
 
 def _legacy_labels(frame: LegacyCaptured) -> Tuple[np.ndarray, np.ndarray]:
     data = ~clause18.IS_PILOT
     channels = frame.diagonal[data].astype(complex)[:, None, None]
-    return _detected(frame.rate.constellation, channels, frame.samples[:, data][:, :, None]), np.zeros(channels.size, bool)
+    samples = frame.samples[:, data, 0] + 1j * frame.samples[:, data, 1]
+    return _detected(frame.rate.constellation, channels, samples[:, :, None]), np.zeros(channels.size, bool)

@@ -9,7 +9,8 @@ for one to four streams. Then the frame is quantised, and the program does the r
 (`mizgaure.detectors`). Where the program's soft decoder is one of them, the gain is so small that few of its weights are cut.
 
 Each frame draws from a generator of its own, which the seed, the number of the SNR point and the number of the frame
-determine; so a sweep is the same in one process and in many, on one machine and on many, and in parts.
+determine; so a sweep is the same in one process and in many, on one machine and on many, in parts, and by the proved library
+(`mizgaure.inside`), which is called where it is there, as by the program.
 
 A sweep is kept as JSON lines: its setting, and then a line for each few frames of a point (a chunk), as they come. What was
 broken off goes on from there, and the files of parts are merged by their chunks.
@@ -22,7 +23,6 @@ import io
 import json
 import os
 from dataclasses import asdict, dataclass, field, fields
-from functools import partial
 from typing import Any, BinaryIO, Callable, Dict, Iterable, Iterator, List, Optional, Sequence, Set, Tuple, Union
 
 import numpy as np
@@ -34,6 +34,7 @@ from .detectors import REFERENCE, Detector, decided
 from .errors import InputError, ProgramError
 from .files import Source, reading, refuse_overwriting
 from .formats import CaptureFrame, SentFrame, SymbolsFrame, read_htsy, write_htcp, write_httx
+from .inside import Inside, receiver
 from .measures import ErrorRates, FrameProportion, Proportion
 from .program import Radio
 from .quantise import SOFT_DIAGONAL, MeasuredFrame, capture
@@ -350,7 +351,7 @@ class Journal:
         try:
             if self.known is None:
                 self._stream = open(self.path, "wb", buffering=0)
-                self._stream.write(made.head().encode() + b"\n")
+                self._write_head(made.head().encode() + b"\n")
                 return
             _check_same(made, self.known)
             self._stream = open(self.path, "rb+", buffering=0)
@@ -359,6 +360,16 @@ class Journal:
             self._stream.seek(whole)
         except OSError as error:
             raise InputError(f"{self.path} can't be written: {error.strerror}") from error
+
+    def _write_head(self, line: bytes) -> None:
+        """Write the first line, or leave no file."""
+        assert self._stream is not None
+        try:
+            if self._stream.write(line) != len(line):
+                raise OSError(errno.EFBIG, os.strerror(errno.EFBIG))
+        except OSError:
+            os.unlink(self.path)
+            raise
 
     def write(self, chunk: Chunk) -> None:
         """Write a chunk: in one piece, so that what is broken off is a last line without an end."""
@@ -378,7 +389,7 @@ class Journal:
 
 @dataclass(frozen=True)
 class Task:
-    """A chunk to do."""
+    """A chunk to do; without a program's path by the library, where whoever does it has that."""
 
     setting: Setting
     coded: bool
@@ -390,7 +401,7 @@ class Task:
     count: int
 
 
-def sweep(setting: Setting, radio: Optional[Radio] = None, processes: Optional[int] = None,
+def sweep(setting: Setting, radio: Optional[Union[Inside, Radio]] = None, processes: Optional[int] = None,
           progress: Optional[Callable[[int, int], None]] = None, *, path: Optional[str] = None, scheduler: Optional[str] = None,
           detectors: Iterable[Detector] = (), part: Tuple[int, int] = (1, 1), journal: Optional[Journal] = None,
           point_done: Optional[Callable[[Sweep, int], None]] = None) -> Sweep:
@@ -399,13 +410,14 @@ def sweep(setting: Setting, radio: Optional[Radio] = None, processes: Optional[i
     Parameters
     ----------
     setting : Setting
-    radio : Radio, optional
+    radio : Inside or Radio, optional
+        What receives, the library or the program, where it isn't to be looked for.
     processes : int, optional
         How many processes share the work; by default as many as there are processors.
     progress : callable, optional
         Called with the frames that are done and those that there are in all.
     path : str, optional
-        Where the workers of a scheduler have the program; by default each finds it for itself.
+        Where the workers of a scheduler have the program; by default each finds the library or the program for itself.
     scheduler : str, optional
         The address of a scheduler of dask.distributed, whose workers do the work.
     detectors : iterable of Detector
@@ -434,7 +446,8 @@ def sweep(setting: Setting, radio: Optional[Radio] = None, processes: Optional[i
     own = [word for word in (setting.channel, *(detector.words for detector in detectors)) if plugs.names_function(word)]
     texts = tuple((word, plugs.text_of(word)) for word in own)
     if scheduler is None:
-        path = (radio or Radio(path)).path
+        found = radio or receiver(path)
+        path = None if isinstance(found, Inside) else found.path
     coded = _is_coded(path) if scheduler is None else next(workers.run(_is_coded, [path]))[1]
     done = Sweep(setting, coded, detectors, _checked_part(part), {word: plugs.digest(word) for word in own})
     if len(set(done.names)) < len(done.names):
@@ -461,8 +474,8 @@ def _checked_part(part: Tuple[int, int]) -> Tuple[int, int]:
 
 
 def _is_coded(path: Optional[str]) -> bool:
-    radio = Radio(path, progress=False)
-    return radio.knows("tx") and radio.knows("rx")
+    found = receiver(path, progress=False)
+    return isinstance(found, Inside) or found.knows("tx") and found.knows("rx")
 
 
 class _Run:
@@ -526,25 +539,79 @@ def _chunk(task: Task) -> Rates:
     """The errors of some frames at one point."""
     plugs.keep(dict(task.texts))
     setting = task.setting
-    radio = Radio(task.radio, progress=False, workers=1)
+    found = receiver(task.radio, progress=False)
+    radio: Union[_Called, _Read] = _Called(found) if isinstance(found, Inside) else _Read(Radio(task.radio, progress=False, workers=1))
     generators = [np.random.default_rng([setting.seed, task.point, number]) for number in range(task.first, task.first + task.count)]
     octets, symbols = _sent(setting, task.coded, radio, generators)
     snr = setting.snr[task.point]
     gain = _soft_gain(setting.rate) if any(detector.is_soft for detector in task.detectors) else None
     made = capture([received_frame(setting, snr, frame, generator) for frame, generator in zip(symbols, generators)], gain)
-    whole = _octets(made.frames)
-    of_octets = partial(_octet_errors, radio, "rx", octets) if task.coded else lambda _: ErrorRates()
-    found: Rates = {REFERENCE: _point_errors(symbols, radio.detect(whole)) + of_octets(whole)}
+    detected = radio.detect(made.frames)
+    rates: Rates = {REFERENCE: _point_errors(symbols, detected)}
+    if task.coded:
+        rates[REFERENCE] += _octet_errors(octets, radio.decoded(made.frames, detected))
     noises = [gain**2 * 10 ** (-snr / 10) for gain in made.gains]
     for detector in task.detectors:
         if detector.is_soft:
-            found[detector.name] = _octet_errors(radio, "soft", octets, whole)
+            rates[detector.name] = _octet_errors(octets, radio.soft(made.frames))
             continue
-        points = detector.decide(made.frames, whole, noises)
+        points = detector.decide(made.frames, _octets(made.frames), noises)
         jobs = [_jobs(number, each) for number, each in enumerate(points)]
-        again = _octets([decided(frame, each) for frame, each in zip(made.frames, points)])
-        found[detector.name] = _point_errors(symbols, jobs) + of_octets(again)
-    return found
+        rates[detector.name] = _point_errors(symbols, jobs)
+        if task.coded:
+            again = [decided(frame, each) for frame, each in zip(made.frames, points)]
+            rates[detector.name] += _octet_errors(octets, radio.decoded(again, jobs))
+    return rates
+
+
+class _Called:
+    """The receiver of a chunk by calls of the library."""
+
+    def __init__(self, library: Inside) -> None:
+        self.library = library
+
+    def sent(self, frames: Sequence[SentFrame]) -> List[SymbolsFrame]:
+        return [self.library.sent(frame) for frame in frames]
+
+    def detect(self, frames: Sequence[CaptureFrame]) -> List[Jobs]:
+        return [self.library.jobs(number, frame) for number, frame in enumerate(frames)]
+
+    def decoded(self, frames: Sequence[CaptureFrame], jobs: Sequence[Jobs]) -> List[Optional[bytes]]:
+        """The octets of frames whose nearest points these are."""
+        found = [self.library.octets(frame, each) for frame, each in zip(frames, jobs)]
+        return [None if each is None else each[0] for each in found]
+
+    def soft(self, frames: Sequence[CaptureFrame]) -> List[Optional[bytes]]:
+        return [self.library.soft(number, frame).octets for number, frame in enumerate(frames)]
+
+
+class _Read:
+    """The receiver of a chunk by the program's texts."""
+
+    def __init__(self, radio: Radio) -> None:
+        self.radio = radio
+
+    def sent(self, frames: Sequence[SentFrame]) -> List[SymbolsFrame]:
+        made = io.BytesIO()
+        write_httx(made, frames)
+        return list(read_htsy(self.radio.tx(made.getvalue())))
+
+    def detect(self, frames: Sequence[CaptureFrame]) -> List[Jobs]:
+        return self.radio.detect(_octets(frames))
+
+    def decoded(self, frames: Sequence[CaptureFrame], _: Sequence[Jobs]) -> List[Optional[bytes]]:
+        """The octets of frames."""
+        return self._answers("rx", frames)
+
+    def soft(self, frames: Sequence[CaptureFrame]) -> List[Optional[bytes]]:
+        return self._answers("soft", frames)
+
+    def _answers(self, word: str, frames: Sequence[CaptureFrame]) -> List[Optional[bytes]]:
+        with self.radio.answers(word, _octets(frames)) as answers:
+            found = {answer.frame: answer.octets for answer in answers if isinstance(answer, (FrameAnswer, SoftAnswer))}
+        if set(found) != set(range(len(frames))):
+            raise ProgramError(f"{self.radio.path} {word} gave no line for each frame")
+        return [found[number] for number in range(len(frames))]
 
 
 def _soft_gain(rate: Rate) -> float:
@@ -573,31 +640,18 @@ def _point_errors(sent: Sequence[SymbolsFrame], answers: Sequence[Jobs]) -> Erro
     return total
 
 
-def _octet_errors(radio: Radio, word: str, sent: Sequence[bytes], whole: bytes) -> ErrorRates:
-    total = ErrorRates()
-    for answer in _decoded(radio, word, whole):
-        total += measures.octet_errors(sent[answer.frame], answer.octets)
-    return total
+def _octet_errors(sent: Sequence[bytes], received: Sequence[Optional[bytes]]) -> ErrorRates:
+    return sum((measures.octet_errors(*pair) for pair in zip(sent, received)), ErrorRates())
 
 
-def _decoded(radio: Radio, word: str, whole: bytes) -> List[Union[FrameAnswer, SoftAnswer]]:
-    with radio.answers(word, whole) as answers:
-        found = [answer for answer in answers if isinstance(answer, (FrameAnswer, SoftAnswer))]
-    if not found:
-        raise ProgramError(f"{radio.path} {word} gave no line for each frame")
-    return found
-
-
-def _sent(setting: Setting, coded: bool, radio: Radio, generators: Sequence[np.random.Generator]):
+def _sent(setting: Setting, coded: bool, radio: Union[_Called, _Read], generators: Sequence[np.random.Generator]):
     """The octets and the symbols of frames; where there is no code the octets mean nothing."""
     rate = setting.rate
     octets = [generator.bytes(setting.length) for generator in generators]
     seeds = [int(generator.integers(1, 128)) for generator in generators]
     if not coded:
         return octets, [random_symbols(rate, setting.length, generator) for generator in generators]
-    frames = io.BytesIO()
-    write_httx(frames, [SentFrame(rate, *pair) for pair in zip(octets, seeds)])
-    return octets, list(read_htsy(radio.tx(frames.getvalue())))
+    return octets, radio.sent([SentFrame(rate, *pair) for pair in zip(octets, seeds)])
 
 
 def random_symbols(rate: Rate, length: int, generator: np.random.Generator) -> SymbolsFrame:

@@ -15,6 +15,7 @@
 ``recording``     recordings opened, whatever they are kept in, and written
 ``resampled``     recordings at other rates, or with another middle
 ``placing``       where no packet is found: a band beside the middle, or what is likely wrong
+``part``          a part of a recording, by time or the number of its packets
 ``pieces``        a recording in pieces that overlap, without the antennas' levels
 ``channels``      the parts of 20 MHz in which packets are looked for
 ``synchronise``   where packets are in a channel: the short and the long training

@@ -17,6 +17,15 @@ def forward(values: np.ndarray, length: Optional[int] = None) -> np.ndarray:
     return _transforms.fft(values, length, axis=-1).astype(np.complex64, copy=False)
 
 
+def phasors(turns: np.ndarray) -> np.ndarray:
+    """The numbers of length 1 with so many turns, few of them: complex64, of the same shape."""
+    angles = (2 * np.pi * turns).astype(np.float32)
+    made = np.empty(angles.shape, np.complex64)
+    np.cos(angles, out=made.real)
+    np.sin(angles, out=made.imag)
+    return made
+
+
 def backward(spectra: np.ndarray) -> np.ndarray:
     """The rows of spectra: complex64 for complex64."""
     return _transforms.ifft(spectra, axis=-1).astype(np.complex64, copy=False)

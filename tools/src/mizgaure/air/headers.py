@@ -2,8 +2,10 @@
 
 from __future__ import annotations
 
+import cmath
 from dataclasses import dataclass
-from typing import List, Optional, Tuple
+from itertools import accumulate
+from typing import Optional, Tuple
 
 import numpy as np
 
@@ -13,8 +15,8 @@ from .form import Form
 from .signal import HtSignal, LegacySignal, decode, points_of, read_ht, read_legacy
 from .spectra import FRONT, Spectra
 from .standard import LONG_GUARD, SYMBOL, TRANSFORM
-from .synchronise import EARLY, NUMBERS, Training
-from .track import smoothed, window_of
+from .synchronise import EARLY, NUMBERS, PLACES, Training
+from .track import mean_power, smoothed, window_of
 
 # Why a packet isn't in a capture.
 NO_LEGACY, BAD_CRC, CUT_OFF, CLAUSE_18, VHT = "bad L-SIG", "bad HT-SIG CRC", "cut off", "clause 18", "VHT"
@@ -85,7 +87,7 @@ class HeaderReader:
         turn = np.exp(2j * np.pi * NUMBERS * (self.early + EARLY) / TRANSFORM)
         self.heard = training.channel * turn
         self._channel = self.heard
-        if np.mean(np.abs(links) ** 2) < STRONG:
+        if mean_power(links) < STRONG:
             even = np.full(np.count_nonzero(USED), 0.5)
             self._channel = np.zeros_like(self.heard)
             self._channel[:, USED] = smoothed(links * turn[USED], NUMBERS[USED], even, DELAYS, TRANSFORM, ROUNDS) / weights
@@ -93,9 +95,9 @@ class HeaderReader:
 
     def read(self) -> Headers:
         """L-SIG, HT-SIG, and what kind of packet it is."""
-        if not self._symbols:
+        if not len(self._symbols):
             return Headers(left_out=CUT_OFF)
-        values = [self._data_values(symbol, number) for number, symbol in enumerate(self._symbols)]
+        values = self._data_values()
         if _is_turned(values[0]):
             return self._read_greenfield(values)
         legacy = read_legacy(decode(values[0].real[None]))
@@ -105,7 +107,7 @@ class HeaderReader:
         self._read_ht(headers, values[1:])
         return headers
 
-    def _read_ht(self, headers: Headers, values: List[np.ndarray]) -> None:
+    def _read_ht(self, headers: Headers, values: np.ndarray) -> None:
         """HT-SIG, where it stands behind L-SIG."""
         assert headers.legacy is not None
         if headers.legacy.rate != 6:
@@ -115,7 +117,7 @@ class HeaderReader:
         elif not _is_turned(values[0]):
             headers.left_out = VHT if _is_turned(values[1]) else CLAUSE_18
         else:
-            headers.signal = read_ht(decode(np.stack(values[:2]).imag))
+            headers.signal = read_ht(decode(values[:2].imag))
             headers.left_out = BAD_CRC if headers.signal is None else self._refusal(headers.signal, headers.legacy)
             if headers.signal is not None and headers.left_out is None:
                 headers.lasts = _lasts(headers.signal, False)
@@ -124,9 +126,9 @@ class HeaderReader:
         reason = refusal(signal, self.antennas, 2 if self.whole else 1)
         return TOO_LONG if reason is None and standard.signal_octets(form_of(signal, False).duration(signal.length)) > legacy.length else reason
 
-    def _read_greenfield(self, values: List[np.ndarray]) -> Headers:
+    def _read_greenfield(self, values: np.ndarray) -> Headers:
         """What a packet says whose first symbol behind the training is turned: HT-SIG in greenfield format, or nothing that is known."""
-        signal = read_ht(decode(np.stack(values[:2]).imag)) if len(values) > 1 else None
+        signal = read_ht(decode(values[:2].imag)) if len(values) > 1 else None
         headers = Headers(None, signal, NO_LEGACY, LEGACY_BEGIN + 2 * SYMBOL)
         if signal is not None:
             headers.left_out = refusal(signal, self.antennas, 2 if self.whole else 1)
@@ -145,28 +147,29 @@ class HeaderReader:
         count = len(points)
         sent = np.zeros((count, NUMBERS.size), complex)
         sent[:, DATA], sent[:, PILOTS] = points, polarity()[:count, None] * PILOT_SIGNS
-        heard = np.stack(self._symbols[:count])
-        phases = np.unwrap(np.angle(np.sum(sent.conj() * heard, axis=1)))
-        # Both symbols of the long training have the phase 0.
-        times = np.concatenate(([0, TRANSFORM], LEGACY_BEGIN + LONG_GUARD + SYMBOL * np.arange(count)))
-        times = times - times.mean()
-        slope = float(times @ np.concatenate(([0, 0], phases))) / float(times @ times)
+        agree = np.einsum("nk,nk->n", sent.conj(), self._symbols[:count])
+        # Both symbols of the long training have the phase 0, and from one symbol to the next it turns less than half a turn.
+        phases = list(accumulate([0.0, cmath.phase(agree[0])] + [cmath.phase(turn) for turn in agree[1:] * agree[:-1].conj()]))
+        times = [0, TRANSFORM, *(LEGACY_BEGIN + LONG_GUARD + SYMBOL * n for n in range(count))]
+        middle = sum(times) / len(times)
+        slope = sum((time - middle) * phase for time, phase in zip(times, [0.0, *phases])) / sum((time - middle) ** 2 for time in times)
         return self.spectra.offset + slope / (2 * np.pi)
 
-    def _combined(self, count: int) -> List[np.ndarray]:
-        """L-SIG and the symbols behind it, as many as are there, of all rows: 53 values each, not divided by their weight."""
+    def _combined(self, count: int) -> np.ndarray:
+        """L-SIG and the symbols behind it, as many as are there, of all rows, not divided by their weight: complex128, (symbols, 53)."""
         begins = LEGACY_BEGIN + LONG_GUARD + SYMBOL * np.arange(count) + self.early
         inside = begins[begins + TRANSFORM <= self.ends]
         spectra = self.spectra.of(inside) if inside.size else None
         if spectra is None:
-            return []
-        return list(np.einsum("ak,ank->nk", self._channel.conj() * self.powers[:, None], spectra[..., NUMBERS % TRANSFORM]))
+            return np.zeros((0, NUMBERS.size), complex)
+        return np.einsum("ak,ank->nk", self._channel.conj() * self.powers[:, None], spectra[..., PLACES])
 
-    @staticmethod
-    def _data_values(symbol: np.ndarray, number: int) -> np.ndarray:
-        """A symbol's 48 data values, turned so that its pilots lie where they should."""
-        total = np.sum(symbol[PILOTS] * PILOT_SIGNS) * polarity()[number]
-        return symbol[DATA] * (total.conj() / abs(total) if total else 1)
+    def _data_values(self) -> np.ndarray:
+        """The 48 data values of each symbol, turned so that its pilots lie where they should: complex128, (symbols, 48)."""
+        total = self._symbols[:, PILOTS] @ PILOT_SIGNS * polarity()[: len(self._symbols)]
+        size = np.abs(total)
+        turns = np.where(size > 0, total.conj() / np.where(size > 0, size, 1), 1)
+        return self._symbols[:, DATA] * turns[:, None]
 
 
 def refusal(signal: HtSignal, antennas: int, parts: int) -> Optional[str]:

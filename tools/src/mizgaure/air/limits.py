@@ -1,7 +1,8 @@
 """The limits of transmitters and receivers, in one table: those of IEEE Std 802.11-2012, clauses 20.3.20 and 20.3.21.
 
-The text of that edition wasn't at hand when the table was written, so no number here was compared with it. What was compared
-is in the column ``checked``: the two forms in which a clause gives one limit, or another table of this repository.
+The text of that edition wasn't at hand when the table was written, so no number here, of a limit or of a clause, was compared
+with it. All are from memory of the standard. ``checked`` says what else they were held against: two forms of one limit, sums that
+have to agree, or another table of this repository; a test does so.
 """
 
 from __future__ import annotations
@@ -16,7 +17,8 @@ from ..rates import ERROR_LIMITS
 EDITION = "IEEE Std 802.11-2012"
 HIGH_BAND = 4.9e9  # Hz, from which on a carrier is in the 5 GHz band
 SEVERAL = 2  # frames from which on there is an interval, where a clause names no number
-NOT_CHECKED = "not compared with the text"
+NOT_CHECKED = "nothing"
+REMARK = "The limits and the numbers of clauses are from memory of the standard, and weren't compared with its text: compare them with your copy before you sign."
 
 
 @dataclass(frozen=True)
@@ -35,7 +37,7 @@ class Limit:
     named : bool
         Whether the clause names that number; it is `SEVERAL` otherwise.
     checked : str
-        What the numbers were compared with.
+        What the numbers, which are from memory of the standard, were compared with.
     """
 
     test: str
@@ -61,18 +63,19 @@ FLATNESS = Limit("spectral flatness", "20.3.20.2", "-4 to +4 dB inside, -6 to +4
 FREQUENCY = Limit("centre frequency", "20.3.20.4", "20 ppm in the 5 GHz band, 25 ppm in the 2.4 GHz band")
 CLOCK = Limit("symbol clock", "20.3.20.6", "20 ppm in the 5 GHz band, 25 ppm in the 2.4 GHz band")
 CENTRE_LEAKAGE = Limit("centre frequency leakage", "20.3.20.7.2", "-15 dB of the power at 20 MHz, -20 dB at 40 MHz, -17 dB at 20 MHz in one half of 40",
-                       checked="its other form, +2, 0 and 0 dB of a subcarrier's mean power, agrees within 0.6 dB; not compared with the text")
+                       checked="its other form, +2, 0 and 0 dB of a subcarrier's mean power (from memory, too), agrees within 0.6 dB")
 CONSTELLATION = Limit("constellation error", "20.3.20.7.3", f"{', '.join(map(str, ERROR_LIMITS))} dB for MCS 0 to 7 of a stream", frames=20, named=True,
-                      checked="the table of this repository's rates; editions differ in MCS 7, and the stricter number is taken")
+                      checked="nothing; editions differ in MCS 7, -28 or -27, and the stricter number is taken")
 # Of receivers (clause 20.3.21): dBm by the modulation and coding of a stream, and by how many dB a neighbour may be above the packets.
 SENSITIVITY_LEVELS = {20: (-82, -79, -77, -74, -70, -66, -65, -64), 40: (-79, -76, -74, -71, -67, -63, -62, -61)}
 REJECTION = (16, 13, 11, 8, 4, 0, -1, -2)
 REJECTION_FAR = (32, 29, 27, 24, 20, 16, 15, 14)  # of a neighbour in a nonadjacent channel
 SENSITIVITY = Limit("minimum sensitivity", "20.3.21.1", "one packet in ten of 4,096 octets wrong at -82 to -64 dBm, at 40 MHz 3 dB higher",
-                    checked="the ratios of docs/RECORDINGS.md; not compared with the text")
-ADJACENT = Limit("adjacent channel rejection", "20.3.21.2", "the same, 3 dB above, beside a neighbour 16, 13, 11, 8, 4, 0, -1, -2 dB stronger")
+                    checked="the ratios of docs/RECORDINGS.md; level and adjacent channel rejection sum up to -66 dBm at each MCS")
+ADJACENT = Limit("adjacent channel rejection", "20.3.21.2", "the same, 3 dB above, beside a neighbour 16, 13, 11, 8, 4, 0, -1, -2 dB stronger",
+                 checked="the neighbour's level is the same, -63 dBm, at each MCS")
 NONADJACENT = Limit("nonadjacent channel rejection", "20.3.21.3", "the same beside a neighbour two channels away, 32, 29, 27, 24, 20, 16, 15, 14 dB stronger",
-                    checked="each is 16 dB above the adjacent one; not compared with the text")
+                    checked="each is 16 dB above the adjacent one")
 LIMITS = (SPECTRAL_MASK, FLATNESS, FREQUENCY, CLOCK, CENTRE_LEAKAGE, CONSTELLATION, SENSITIVITY, ADJACENT, NONADJACENT)
 SYMBOLS_ASKED = 16  # of each frame, by clause 20.3.20.7.4
 

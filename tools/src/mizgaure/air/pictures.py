@@ -45,7 +45,7 @@ def frame_of(recording: Recording, number: int) -> Packet:
 
 
 def spectrum(recording: Recording, number: int, name: str = "") -> "Figure":
-    """The power of a recording over frequency, a line for each channel.
+    """The power density of a recording over frequency, a line for each channel; of a long one that of its beginning.
 
     Parameters
     ----------
@@ -60,25 +60,29 @@ def spectrum(recording: Recording, number: int, name: str = "") -> "Figure":
     matplotlib.figure.Figure
     """
     matplotlib, Figure = matplotlib_of()
-    powers = np.zeros((recording.layout.channels, BINS))
+    powers, segments = np.zeros((recording.layout.channels, BINS)), 0
     taper = np.hanning(BINS)
     for first in range(0, min(recording.length, SHOWN), 1 << 16):
         samples = recording.read(first, 1 << 16)
         whole = samples[:, : samples.shape[1] // BINS * BINS].reshape(len(samples), -1, BINS)
         powers += np.sum(np.abs(np.fft.fft(whole * taper, axis=-1)) ** 2, axis=1)
+        segments += whole.shape[1]
     if not powers.any():
         raise InputError(f"{recording.name} has no {BINS} samples that aren't 0")
-    powers = np.fft.fftshift(powers, axes=-1) / powers.max()
-    frequencies = (np.arange(BINS) - BINS // 2) * recording.layout.rate / BINS / 1e6
+    rate = recording.layout.rate
+    densities = np.fft.fftshift(powers, axes=-1) / (segments * rate * np.sum(taper**2))
+    frequencies = ((np.arange(BINS) - BINS // 2) * rate / BINS + (recording.frequency or 0.0)) / 1e6
     with matplotlib.rc_context(STYLE):
         figure, (panel,) = _drawn(Figure, 1, 1, 7.6, 3.2)
-        for channel, power in enumerate(powers):
+        for channel, density in enumerate(densities):
             colour, _, line = STREAM_STYLES[channel % len(STREAM_STYLES)]
-            panel.plot(frequencies, 10 * np.log10(np.maximum(power, 1e-12)), color=colour, linestyle=line, linewidth=1.1,
+            panel.plot(frequencies, 10 * np.log10(np.maximum(density, 1e-12 * densities.max())), color=colour, linestyle=line, linewidth=1.1,
                        label=f"antenna {channel}")
-        panel.set(xlabel="frequency from the middle (MHz)", ylabel="power beside the largest (dB)", xlim=(frequencies[0], frequencies[-1]))
+        panel.set(xlabel="frequency from the middle (MHz)" if recording.frequency is None else "frequency (MHz)",
+                  ylabel="power density (dB of full scale per Hz)", xlim=(frequencies[0], frequencies[-1]))
         _legend(figure, *panel.get_legend_handles_labels())
-        _titled(figure, "Spectrum of a recording", f"{recording.layout.rate / 1e6:g} million samples a second", name)
+        part = f", the first {SHOWN:,} of them" if recording.length > SHOWN else ""
+        _titled(figure, "Spectrum of a recording", f"{rate / 1e6:g} million samples a second{part}", name)
     return figure
 
 

@@ -17,7 +17,7 @@ from typing import Iterator, Tuple
 
 import numpy as np
 
-from .recording import Recording
+from .recording import ENDLESS, Recording
 
 # Samples at 20 MHz: from one piece to the next where there are up to four antennas; behind a piece's end; in front of its beginning.
 STEP, BEHIND, FRONT = 1 << 19, 1 << 17, 1 << 10
@@ -105,14 +105,23 @@ def piece_of(recording: Recording, over: int, number: int) -> Piece:
     return Piece(samples, first, begin, first + have if final else begin + step, over, final, np.concatenate(spoiled))
 
 
-def pieces_of(recording: Recording, over: int) -> Iterator[Piece]:
-    """All pieces of a recording, in their order, until there are no more samples."""
-    number = 0
+def pieces_of(recording: Recording, over: int, first: int = 0, stop: int = ENDLESS) -> Iterator[Piece]:
+    """The pieces of a recording, in their order, until there are no more samples.
+
+    Parameters
+    ----------
+    recording : Recording
+    over : int
+    first, stop : int
+        Instants between which packets begin. In front of these are the pieces whose packets may last until then, or hide what would.
+    """
+    number = max(0, first - 2 * BEHIND * over) // step_of(recording.layout.channels, over)
+    recording.pass_over(max(0, number * step_of(recording.layout.channels, over) - FRONT * over))
     while True:
         piece = piece_of(recording, over, number)
         if piece.samples.shape[1]:
             yield piece
-        if piece.final:
+        if piece.final or piece.end >= stop:
             return
         number += 1
 

@@ -11,6 +11,7 @@ from typing import Iterator, List, Optional, Tuple
 
 import numpy as np
 
+from .part import WHOLE, Part
 from .record import packets_in
 from .resampled import BAND, RATES, Resampled, fitted, goal_of
 from .samples import Layout, Recording
@@ -62,6 +63,8 @@ class Look:
     Parameters
     ----------
     recording : Recording
+    part : Part
+        Of it, in which there was none.
 
     Attributes
     ----------
@@ -73,15 +76,16 @@ class Look:
         The share of parts that are as large as that.
     """
 
-    def __init__(self, recording: Recording) -> None:
+    def __init__(self, recording: Recording, part: Part = WHOLE) -> None:
         self.recording = recording
+        low, high = part.instants(recording)
         self.largest, count, total = 0.0, 0, 0
         block = max(1, round(BLOCK * recording.layout.rate))
         step = READ // block * block
         found: List[Tuple[float, int]] = []
         last = np.zeros(0)
-        for first in range(recording.earliest, recording.length, step):
-            samples = recording.read(first, step)
+        for first in range(max(low, recording.earliest), high, step):
+            samples = recording.read(first, min(step, high - first))
             parts = np.abs(samples.view(np.float32))
             here = float(parts.max(initial=0))
             if here > self.largest:

@@ -8,6 +8,7 @@ from __future__ import annotations
 import os
 import traceback
 from dataclasses import dataclass
+from functools import lru_cache
 from typing import Optional, Tuple, Union
 
 import numpy as np
@@ -16,6 +17,7 @@ from ..quantise import MeasuredFrame
 from . import standard, stbc
 from .channels import Channel
 from .form import Form
+from .fourier import phasors
 from .headers import CLAUSE_18, CUT_OFF, DELAYS, LEGACY_BEGIN, USED, HeaderReader, Headers, form_of
 from .legacy import LegacyFrame, receive_legacy
 from .signal import HtSignal, LegacySignal
@@ -82,6 +84,11 @@ class Packet:
     step: Optional[Step] = None
     fault: str = ""
     clause_18: Optional[LegacyFrame] = None
+
+    @property
+    def has_header(self) -> bool:
+        """Whether L-SIG or HT-SIG could be read."""
+        return self.legacy is not None or self.signal is not None
 
     @property
     def is_greenfield(self) -> bool:
@@ -211,6 +218,15 @@ def hear(channel: Channel, candidate: Candidate, noise: np.ndarray) -> Optional[
     return None if training is None else Hearing(channel, training)
 
 
+@lru_cache(maxsize=None)
+def shifts_of_streams(bandwidth: int, streams: int) -> np.ndarray:
+    """What cyclic shifts and the rotation of 40 MHz multiply each subcarrier of the HT part with: complex128, shape (subcarriers, streams)."""
+    carriers = standard.ht_subcarriers(bandwidth)
+    made = standard.shifted(standard.stream_shifts(streams), bandwidth)[:, carriers].T * standard.rotation(bandwidth)[carriers][:, None]
+    made.setflags(write=False)
+    return made
+
+
 class _HtPart:
     """The HT part of a packet, from its HT-LTFs on. Antennas are scaled so that each has noise of mean power 1."""
 
@@ -228,9 +244,7 @@ class _HtPart:
     def estimate(self) -> bool:
         """Estimate the channel, and place the windows; whether there is one."""
         rate, over, length, streams = self.rate, self.spectra.over, self.spectra.length, self.form.streams
-        carriers = standard.ht_subcarriers(rate.bandwidth)
-        turn = standard.rotation(rate.bandwidth)[carriers]
-        shifts = standard.shifted(standard.stream_shifts(streams), rate.bandwidth)[:, carriers].T * turn[:, None]  # subcarrier, stream
+        shifts = shifts_of_streams(rate.bandwidth, streams)
         early = self.reader.early * over
         found = self._links(shifts, early)
         if found is not None and self.form.greenfield and self.window.begin != early:
@@ -243,8 +257,7 @@ class _HtPart:
         if self.signal.smoothing:
             links = smoothed(links, self.numbers, noise, np.arange(DELAYS[0] * over, DELAYS[-1] * over + 1), length)
         links = links * np.exp(2j * np.pi * self.numbers * (self.window.begin - early) / length)
-        channel = links.reshape(-1, streams, len(carriers)).transpose(2, 0, 1)
-        self.channel = channel * shifts[:, None, :]
+        self.channel = links.reshape(-1, streams, len(shifts)).transpose(2, 0, 1) * shifts[:, None, :]
         return bool(np.isfinite(self.channel).all() and self.channel.any())
 
     def _links(self, shifts: np.ndarray, early: int) -> Optional[Tuple[np.ndarray, np.ndarray]]:
@@ -271,10 +284,10 @@ class _HtPart:
         if self.form.greenfield:
             heard, each[0] = np.concatenate((heard[:2].mean(axis=0, keepdims=True), heard[2:])), 0.5
         carriers = standard.ht_subcarriers(self.rate.bandwidth)
-        known = standard.ht_long_training(self.rate.bandwidth)[carriers]
+        known = standard.ht_long_training(self.rate.bandwidth)[carriers].real
         signs = standard.TRAINING_SIGNS[:streams, :count] / count
         plain = (signs @ heard.reshape(count, -1)).reshape(streams, len(carriers), -1)  # stream, subcarrier, antenna
-        plain = plain.transpose(2, 0, 1) * (known[:, None] * shifts).conj().T
+        plain = plain.transpose(2, 0, 1) * (known * shifts.T.conj())
         links, noise = plain.reshape(-1, len(carriers)), np.full(len(carriers), each.sum() / count**2)
         if streams == 1 and not self.form.greenfield:
             links, noise = self._with_legacy(links, noise, standard.rotation(self.rate.bandwidth)[carriers])
@@ -311,14 +324,14 @@ class _HtPart:
         untracked = received.copy() if keep and form.is_plain else None
         places, sent = standard.pilot_places(rate.bandwidth), standard.pilots(rate, symbols, form.streams, form.first_polarity)
         expected = np.ascontiguousarray(np.matmul(sent.transpose(1, 0, 2), self.channel[places].transpose(0, 2, 1)).transpose(1, 0, 2))
-        pilots, powers = combined(received[:, places], expected), np.sum(np.abs(expected) ** 2, axis=2)
+        pilots, powers = combined(received[:, places], expected), np.sum(expected.real**2 + expected.imag**2, axis=2)
         drift = drift_of(pilots, self.numbers[places], times, self.spectra.length)
         self.step = step_of(pilots, powers, self.numbers[places] / self.spectra.length, times, drift)
         shifts, late = shifts_of(drift, times, self.window.rest)
         if self.window.room < 1:
             shifts, late = shifts_of(drift, times, self.window.rest + self._later(begins, drift, times, expected))
         received, late = self._moved(received, begins, shifts, late)
-        received *= np.exp(-2j * np.pi / self.spectra.length * np.outer(late, self.numbers)).astype(np.complex64)[..., None]
+        received *= phasors(np.outer(late, -self.numbers / self.spectra.length))[..., None]
         received *= np.exp(-1j * phases_of(combined(received[:, places], expected))).astype(np.complex64)[:, None, None]
         # What is left of a pilot is kept, and its point becomes the one of this project.
         channel, point = self.channel, rate.pilot_signs(symbols)
@@ -375,11 +388,11 @@ class _HtPart:
 
 def combined(pilots: np.ndarray, expected: np.ndarray) -> np.ndarray:
     """Pilots, combined over antennas against what is expected: shapes (symbols, pilots, antennas) to (symbols, pilots)."""
-    return np.sum(expected.conj() * pilots, axis=2)
+    return np.einsum("npa,npa->np", expected.conj(), pilots)
 
 
 def _clipped(samples: np.ndarray) -> float:
     """The share of parts that are as large as the largest one of their antenna, where there are more than a few of them."""
     parts = np.abs(np.ascontiguousarray(samples).view(np.float32))
-    count = np.count_nonzero(parts >= AS_LARGE * parts.max(axis=1, keepdims=True), axis=1).max()
-    return float(count) / parts.shape[1] if count > FEW else 0.0
+    count = max(int(np.count_nonzero(row >= AS_LARGE * row.max())) for row in parts)
+    return count / parts.shape[1] if count > FEW else 0.0

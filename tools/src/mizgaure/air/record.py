@@ -2,7 +2,6 @@
 
 from __future__ import annotations
 
-import io
 import shutil
 import tempfile
 from dataclasses import dataclass, replace
@@ -10,11 +9,12 @@ from typing import Any, BinaryIO, Dict, Iterator, Optional, Tuple, cast
 
 from ..errors import FitError, InputError
 from ..files import Target, writing
-from ..formats import MAGIC, MOST_FRAMES, CaptureFrame, write_htcp
+from ..formats import MAGIC, MOST_FRAMES, CaptureFrame, htcp_frame
 from ..quantise import Gain, capture
 from ..rates import Rate
 from .headers import CLAUSE_18
 from .legacy import LegacySpool
+from .part import WHOLE, Part
 from .receive import Packet
 from .recording import Recording
 from .search import packets
@@ -24,7 +24,6 @@ FULL, TOO_LARGE = "the capture is full", "too large at this gain"
 COLUMNS = ("packet", "sample", "time", "bandwidth", "mcs", "length", "guard", "aggregated", "stbc", "greenfield", "legacy_rate", "legacy_length",
            "offset", "noise", "clipped", "remarks", "left_out", "frame", "legacy_frame")
 IN_MEMORY = 1 << 24  # octets of a capture that are kept in memory before a file is taken
-HEAD = 7  # octets of a capture in front of its frames
 CLIPPED = 1e-3  # the share of parts as large as the largest one from which on a packet is said to be clipped
 
 
@@ -42,16 +41,16 @@ def oversampling_of(recording: Recording) -> int:
     raise InputError(f"{recording.name} has {recording.layout.rate:.10g} samples a second, and 20 or 40 million are asked for")
 
 
-def packets_in(recording: Recording, keep: bool = False, processes: int = 1) -> Iterator[Packet]:
+def packets_in(recording: Recording, keep: bool = False, processes: int = 1, part: Part = WHOLE) -> Iterator[Packet]:
     """The packets of a recording, in their order.
 
     Parameters
     ----------
     recording : Recording
-    keep, processes
+    keep, processes, part
         As in `search.packets`.
     """
-    return packets(recording, oversampling_of(recording), keep, processes)
+    return packets(recording, oversampling_of(recording), keep, processes, part)
 
 
 @dataclass(frozen=True)
@@ -193,10 +192,9 @@ class Spool:
         if self.frames == self.most:
             return None
         (frame,) = capture([measured], self.gain).frames
-        made = io.BytesIO()
-        write_htcp(made, [frame], version=1)
+        made = htcp_frame(frame)
         try:
-            self.octets += self._file.write(made.getbuffer()[HEAD:])
+            self.octets += self._file.write(made)
         except OSError as error:
             raise InputError(f"the folder of temporary files, {tempfile.gettempdir()}, can't be written: {error.strerror}") from error
         self.frames += 1
@@ -220,7 +218,7 @@ class Spool:
         self.close()
 
 
-def spooled(recording: Recording, spool: Spool, legacy: Optional[LegacySpool] = None, processes: int = 1) -> Iterator[Line]:
+def spooled(recording: Recording, spool: Spool, legacy: Optional[LegacySpool] = None, processes: int = 1, part: Part = WHOLE) -> Iterator[Line]:
     """Fill a capture with the packets of a recording, and one of clause 18 where that is asked for.
 
     Yields
@@ -228,7 +226,7 @@ def spooled(recording: Recording, spool: Spool, legacy: Optional[LegacySpool] = 
     Line
         One for each packet, in their order.
     """
-    for number, packet in enumerate(packets_in(recording, processes=processes)):
+    for number, packet in enumerate(packets_in(recording, processes=processes, part=part)):
         left_out, frame, legacy_frame = packet.left_out, None, None
         if left_out is None:
             frame, left_out = _taken(spool, packet)

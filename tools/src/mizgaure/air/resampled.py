@@ -7,6 +7,7 @@ in whatever piece it is read.
 
 from __future__ import annotations
 
+import math
 from fractions import Fraction
 from typing import Optional, Tuple
 
@@ -148,6 +149,15 @@ class Resampled(Recording):
     def place_of(self, sample: int) -> Tuple[int, float]:
         """As of the source."""
         return self.source.place_of(self.source_sample(sample))
+
+    def instant_at(self, seconds: float) -> int:
+        """As of the source, at the new rate."""
+        return math.floor(self.source.instant_at(seconds) * self._ratio)
+
+    def pass_over(self, first: int) -> None:
+        """As of the source, but for what the first tile depends on."""
+        low = first if self._tiles is None else self._tiles.sources(first // self._tiles.size, 0)[0]
+        self.source.pass_over(max(0, low))
 
     def read(self, first: int, count: int) -> np.ndarray:
         """As of the source."""

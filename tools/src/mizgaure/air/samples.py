@@ -6,6 +6,7 @@ full scale 1. Whatever a recording is kept in, and whatever its rate, it is one 
 
 from __future__ import annotations
 
+import math
 import os
 from bisect import bisect_right
 from dataclasses import dataclass
@@ -215,6 +216,13 @@ class Recording:
         """The number that the file gives an instant, and what that is in seconds."""
         return self.first + sample, self.seconds(self.first + sample)
 
+    def instant_at(self, seconds: float) -> int:
+        """The last instant that isn't later than so many seconds, as `place_of` counts them; maybe below 0."""
+        return math.floor(seconds * self.layout.rate) - self.first
+
+    def pass_over(self, first: int) -> None:
+        """Nothing in front of an instant will be read."""
+
     def read(self, first: int, count: int) -> np.ndarray:
         """Samples from instant ``first`` on, fewer than ``count`` where the recording ends.
 
@@ -329,6 +337,11 @@ class Joined(Recording):
         """The latest of any part."""
         return max(part.earliest for part in self.parts)
 
+    def pass_over(self, first: int) -> None:
+        """As of each part."""
+        for part in self.parts:
+            part.pass_over(first)
+
     def _samples(self, first: int, count: int) -> np.ndarray:
         pieces = [part.read(first, count) for part in self.parts]
         shortest = min(piece.shape[1] for piece in pieces)
@@ -371,6 +384,11 @@ class Piped(Recording):
     def earliest(self) -> int:
         """The first instant that is kept."""
         return self._earliest
+
+    def pass_over(self, first: int) -> None:
+        """What comes in front of an instant is read and forgotten."""
+        for place in range(self._earliest, first, self._kept):
+            self._samples(place, min(self._kept, first - place))
 
     def _samples(self, first: int, count: int) -> np.ndarray:
         if first < self._earliest:

@@ -4,6 +4,7 @@ from __future__ import annotations
 
 import os
 from dataclasses import replace
+from itertools import islice, takewhile
 from tempfile import TemporaryDirectory, gettempdir
 from typing import Dict, Iterable, Iterator, List, Optional, Tuple
 
@@ -12,6 +13,8 @@ import numpy as np
 from ..errors import InputError
 from ..workers import Workers
 from .channels import LOWER, UPPER, Channel
+from .headers import CLAUSE_18
+from .part import WHOLE, Part
 from .pieces import Piece, pieces_of
 from .receive import MISTAKE, Hearing, Packet, fault_of, hear
 from .recording import Recording
@@ -24,13 +27,17 @@ Middles = Tuple[int, ...]
 CHANNELS: Dict[int, Tuple[Middles, ...]] = {1: ((0,),), 2: ((LOWER, UPPER), (LOWER,), (UPPER,), (0,))}
 MARGIN = 160  # samples at 20 MHz in front of a piece's beginning and behind its end in which candidates are looked for, too
 COLLISION = "begun while another packet lasted"
-LATER, BEFORE_END = 1200, 32  # samples at 20 MHz behind a packet's beginning, and before its end, between which another one's is told
+LATER, BEFORE_END = 200, 32  # samples at 20 MHz behind a packet's beginning, and before its end, between which another one's is told
+SECOND = (430, 505, 635)  # where a packet's own second training looks like that of another one, to the second with one field, else to the third
+ANEW = 1200  # samples at 20 MHz behind a collision within which none is told again
 CLEARLY = 16.0  # as `synchronise.AGREED`, of a packet that begins while another one lasts
 TOGETHER = 96  # samples within which candidates in several channels may be one packet
 
 
-def packets(recording: Recording, over: int, keep: bool = False, processes: int = 1) -> Iterator[Packet]:
-    """The packets of a recording, in the order in which they begin.
+def packets(recording: Recording, over: int, keep: bool = False, processes: int = 1, part: Part = WHOLE) -> Iterator[Packet]:
+    """The packets of a part of a recording, in the order in which they begin.
+
+    They are those that begin there of the whole recording.
 
     Parameters
     ----------
@@ -41,12 +48,20 @@ def packets(recording: Recording, over: int, keep: bool = False, processes: int 
         Whether the packets' ``untracked`` vectors are kept.
     processes : int
         How many look for them; what they find doesn't depend on it.
+    part : Part
     """
+    found = _found(pieces_of(recording, over, *part.instants(recording)), over, keep, processes)
+    before = takewhile(lambda packet: not part.is_behind(recording, packet.sample), found)
+    return islice((packet for packet in before if not part.is_in_front(recording, packet.sample)), part.packets)
+
+
+def _found(pieces: Iterator[Piece], over: int, keep: bool, processes: int) -> Iterator[Packet]:
+    """The packets of pieces that stand one behind the other."""
     if processes == 1:
-        yield from apart((packets_of(piece, keep) for piece in pieces_of(recording, over)), over)
+        yield from apart((packets_of(piece, keep) for piece in pieces), over)
         return
     with TemporaryDirectory(prefix="mizgaure-") as folder:
-        tasks = ((_kept(piece, f"{folder}/{number}.npy"), keep) for number, piece in enumerate(pieces_of(recording, over)))
+        tasks = ((_kept(piece, f"{folder}/{number}.npy"), keep) for number, piece in enumerate(pieces))
         yield from apart((_taken(task, found) for task, found in Workers(processes).run(_packets_of_kept, tasks)), over)
 
 
@@ -79,17 +94,21 @@ def apart(pieces: Iterable[List[Packet]], over: int) -> Iterator[Packet]:
         for packet in piece:
             if all(place not in lasting or packet.sample >= lasting[place].end for place in packet.middles):
                 yield packet
-                if packet.legacy is not None or packet.signal is not None:
+                if packet.has_header:
                     lasting.update((place, packet) for place in covered(packet.middles))
             elif packet.left_out == COLLISION:
                 yield packet
-            elif collides(packet.sample, packet.middles, lasting.get(packet.middles[0]), over):
+            elif packet.has_header and collides(packet.sample, packet.middles, lasting.get(packet.middles[0]), over):
                 yield collision(packet.sample, packet.middles, packet.offset, packet.noise)
 
 
 def collides(sample: int, middles: Middles, other: Optional[Packet], over: int) -> bool:
-    """Whether what begins at a sample is clearly within another packet of the same channel, behind its training."""
-    return other is not None and middles == other.middles and other.sample + LATER * over <= sample < other.end - BEFORE_END * over
+    """Whether what begins at a sample is clearly within another packet of the same channel, and none of its own trainings."""
+    if other is None or middles != other.middles or not other.sample + LATER * over <= sample < other.end - BEFORE_END * over:
+        return False
+    second = other.left_out != CLAUSE_18 and not other.is_greenfield
+    one = other.signal is not None and other.signal.mcs < 8 and not other.signal.stbc
+    return not (second and SECOND[0] * over <= sample - other.sample < SECOND[1 if one else 2] * over)
 
 
 def collision(sample: int, middles: Middles, offset: float, noise: float) -> Packet:
@@ -175,13 +194,13 @@ class _Search:
         sample = (training.begin - FRONT) * over
         if not collides(sample, middles, other, over):
             return
-        if all(packet.left_out != COLLISION or packet.middles != middles or sample >= packet.sample + LATER * over for packet in self.found[-2:]):
+        if all(packet.left_out != COLLISION or packet.middles != middles or sample >= packet.sample + ANEW * over for packet in self.found[-2:]):
             self.found.append(collision(sample, middles, training.offset * 20e6, training.noise_ratio))
 
     def _add(self, packet: Packet) -> None:
         if packet.fault or all(packet.sample >= self.free[place] * self.piece.over for place in packet.middles):
             self.found.append(packet)
-            if packet.legacy is not None or packet.signal is not None:
+            if packet.has_header:
                 for place in covered(packet.middles):
                     if packet.end // self.piece.over > self.free[place]:
                         self.free[place], self.lasting[place] = packet.end // self.piece.over, packet

@@ -132,9 +132,17 @@ def interleaving() -> np.ndarray:
 
 def coded(bits: Sequence[int]) -> np.ndarray:
     """The coded bits of 24 or 48 bits, before interleaving: uint8, shape (48,) or (96,)."""
-    padded = np.concatenate((np.zeros(TAIL, np.uint8), np.asarray(bits, np.uint8)))
-    halves = [np.bitwise_xor.reduce([padded[TAIL - delay : padded.size - delay] for delay in taps]) for taps in (TAPS_A, TAPS_B)]
-    return np.stack(halves, axis=-1).reshape(-1)
+    return (np.asarray(bits, float) @ _coding(len(bits)) % 2).astype(np.uint8)
+
+
+@lru_cache(maxsize=None)
+def _coding(count: int) -> np.ndarray:
+    """Which of the coded bits each bit turns: float64, shape (count, 2 * count), 1 or 0."""
+    made = np.zeros((count, count, 2))
+    for half, taps in enumerate((TAPS_A, TAPS_B)):
+        for delay in taps:
+            made[np.arange(count - delay), np.arange(delay, count), half] = 1
+    return made.reshape(count, 2 * count)
 
 
 def points_of(bits: Sequence[int]) -> np.ndarray:
@@ -146,15 +154,15 @@ def points_of(bits: Sequence[int]) -> np.ndarray:
 
 @lru_cache(maxsize=None)
 def _uncoding(count: int) -> np.ndarray:
-    """What coded bits have to be multiplied with, modulo 2, to give the bits: uint8, shape (2 * count, count)."""
-    rows = np.concatenate((np.array([coded(row) for row in np.eye(count, dtype=np.uint8)]).T, np.eye(2 * count, dtype=np.uint8)), axis=1)
+    """What coded bits have to be multiplied with, modulo 2, to give the bits: float64, shape (2 * count, count), 1 or 0."""
+    rows = np.concatenate((_coding(count).T.astype(np.uint8), np.eye(2 * count, dtype=np.uint8)), axis=1)
     for column in range(count):
         pivot = column + int(rows[column:, column].argmax())
         rows[[column, pivot]] = rows[[pivot, column]]
         others = rows[:, column].astype(bool)
         others[column] = False
         rows[others] ^= rows[column]
-    return np.ascontiguousarray(rows[:count, count:].T)
+    return np.ascontiguousarray(rows[:count, count:].T, float)
 
 
 @lru_cache(maxsize=None)
@@ -182,10 +190,10 @@ def decode(soft: np.ndarray) -> np.ndarray:
     """
     values = soft[:, interleaving()].reshape(-1, 2).astype(float)
     steps = len(values)
-    hard = (values > 0).reshape(-1).astype(np.uint8)
+    hard = (values > 0).reshape(-1).astype(float)
     uncoded = hard @ _uncoding(steps) % 2
-    if (coded(uncoded) == hard).all():  # then no other bits can be likelier
-        return uncoded
+    if (uncoded @ _coding(steps) % 2 == hard).all():  # then no other bits can be likelier
+        return uncoded.astype(np.uint8)
     gains = np.tensordot(values, _outputs(), 1).reshape(steps, 2, 32, 2)  # of each way to each state, whose halves are 32 pairs
     metric = np.full(64, -np.inf)
     metric[0] = 0

@@ -9,8 +9,8 @@ far apart on each antenna as the signal-to-noise ratio says: the signal's mean p
 and the noise's in the whole band of the recording.
 
 A transmitter may have faults: its symbol clock may be off by another part than its carrier, the carrier may leak while a packet
-lasts, and what is beyond a packet's channel may pass a filter or none. It leaks in the middle of the recording's band, also
-beside a packet of 20 MHz in one half of 40.
+lasts, its subcarriers may have other gains, its points may be off by Gaussian errors, and what is beyond a packet's channel may
+pass a filter or none. The carrier leaks in the middle of the recording's band, also beside a packet of 20 MHz in one half of 40.
 
 A receiver adds a level of its own to each antenna, of one amplitude and any phase, which may turn slowly. A neighbour sends
 packets as wide as the others above them, in the next channel or the one behind it, one behind the other, at instants that have
@@ -19,8 +19,8 @@ nothing to do with the others, and nothing outside its channel, as a good transm
 
 from __future__ import annotations
 
-from dataclasses import dataclass
-from typing import Iterable, Optional
+from dataclasses import dataclass, replace
+from typing import Iterable, List, Optional, Sequence, Tuple
 
 import numpy as np
 
@@ -28,12 +28,14 @@ from ..errors import InputError
 from ..formats import SymbolsFrame
 from ..rates import Rate
 from ..sweep import random_symbols
+from . import standard
 from .recording import MOST_CHANNELS, Writer
 from .standard import TRANSFORM
-from .waveform import Clock, packet
+from .waveform import Clock, Pieces, joined, packet, pieces_of
 
 LEVEL = 0.1  # the mean amplitude of a packet beside full scale
 PIECE = 1 << 16
+WIDEST = 58  # the largest number of a subcarrier
 FILTERED = {20: (9.0, 11.0), 40: (19.0, 21.0)}  # MHz from a channel's middle, between which a filter goes down
 
 
@@ -77,6 +79,11 @@ class Scene:
         The power of the carrier's leakage beside all of a transmit chain's, in dB; none where None.
     filter : float, optional
         By how many dB a transmitter weakens what is beyond its channel; not at all where None.
+    gains : tuple of (int, float)
+        Numbers of subcarriers, ascending, and their gains in dB, straight in between and level beyond; the gains' mean square over
+        the HT subcarriers is brought to 1.
+    error : float, optional
+        The r.m.s. error of the points behind the training, pilots counted, beside theirs, in dB; none where None.
     """
 
     antennas: int = 0
@@ -98,6 +105,8 @@ class Scene:
     clock: Optional[float] = None
     leakage: Optional[float] = None
     filter: Optional[float] = None
+    gains: Tuple[Tuple[int, float], ...] = ()
+    error: Optional[float] = None
 
     def check(self) -> None:
         """Refuse what means nothing.
@@ -124,6 +133,9 @@ class Scene:
             raise InputError(f"the symbol clock is off by {self.clock:g} ppm, and has to be by -200 to 200")
         if self.leakage is not None and not self.leakage < 0:
             raise InputError(f"the leakage is {self.leakage:g} dB of the overall power, and has to be below 0")
+        numbers = [number for number, _ in self.gains]
+        if numbers != sorted(set(numbers)) or not all(abs(number) <= WIDEST and abs(gain) <= 40 for number, gain in self.gains):
+            raise InputError(f"gains are those of subcarriers from -{WIDEST} to {WIDEST}, ascending, and -40 to 40 dB")
         if self.nonadjacent and self.neighbour is None:
             raise InputError("a nonadjacent channel is that of a neighbour (--neighbour)")
 
@@ -164,6 +176,27 @@ def filtered(samples: np.ndarray, bandwidth: int, clock: Clock, weaker: float) -
     away = np.abs((away + rate / 2) % rate - rate / 2)
     gains = np.interp(away, FILTERED[bandwidth], (1.0, 10 ** (-weaker / 20)))
     return np.fft.ifft(np.fft.fft(samples, count, axis=1) * gains, axis=1)[:, : samples.shape[1]]
+
+
+def spoiled(pieces: Sequence[Pieces], rate: Rate, scene: Scene, generator: np.random.Generator) -> List[Pieces]:
+    """The pieces of a packet with a scene's gains of subcarriers and errors of points, which its last pieces have."""
+    made = list(pieces)
+    if scene.error is not None:
+        data = made[-1]
+        used = np.isin(standard.span(rate.bandwidth), rate.frequencies)
+        size = 10 ** (scene.error / 20) / np.sqrt(2 * rate.subcarriers * data.values.shape[1])
+        parts = generator.standard_normal((*data.values.shape, 2)) * size
+        made[-1] = replace(data, values=data.values + used * (parts[..., 0] + 1j * parts[..., 1]))
+    if scene.gains:
+        gains, mean = gains_of(scene.gains, standard.span(rate.bandwidth)), np.mean(gains_of(scene.gains, rate.frequencies) ** 2)
+        made = [replace(each, values=each.values * (gains / np.sqrt(mean))) for each in made]
+    return made
+
+
+def gains_of(gains: Sequence[Tuple[int, float]], numbers: np.ndarray) -> np.ndarray:
+    """The factors of subcarriers, from some of them in dB."""
+    places, values = zip(*gains)
+    return 10 ** (np.interp(numbers, places, values) / 20)
 
 
 def channel(scene: Scene, chains: int, antennas: int, oversampling: int, generator: np.random.Generator) -> np.ndarray:
@@ -231,7 +264,8 @@ class _Mixer:
         clock = Clock(self.over, self.stretch, middle_of(bandwidth, self.over))
         begin = (self.writer.length + self.generator.random()) * (1 + self.stretch)
         scene = self.scene
-        first, samples = packet(frame, clock, begin, scene.short_guard, scene.aggregated, scene.stbc, scene.greenfield)
+        pieces = pieces_of(frame, scene.short_guard, scene.aggregated, scene.stbc, scene.greenfield)
+        first, samples = joined(spoiled(pieces, frame.rate, scene, self.others), begin, clock)
         if scene.filter is not None:
             samples = filtered(samples, bandwidth, clock, scene.filter)
         if scene.leakage is not None:

@@ -31,7 +31,7 @@ class Spectra:
     def __init__(self, samples: np.ndarray, front: int, oversampling: int, offset: float) -> None:
         self.samples, self.front, self.over, self.offset = samples, front, oversampling, offset
         self.length = TRANSFORM * oversampling
-        self._windows = np.lib.stride_tricks.sliding_window_view(turned(samples, offset, front), self.length, axis=1)
+        self._windows = windows_of(turned(samples, offset, front), self.length)
 
     def of(self, begins: np.ndarray) -> Optional[np.ndarray]:
         """The spectra of windows that begin at instants.
@@ -45,6 +45,14 @@ class Spectra:
         if not places.size or places.max() >= self._windows.shape[1] or places.min() < 0:
             return None
         return forward(self._windows[:, places])
+
+
+def windows_of(samples: np.ndarray, length: int) -> np.ndarray:
+    """All windows of rows of samples, of which there is one copy at most: shape (rows, windows, length)."""
+    samples = np.ascontiguousarray(samples)
+    rows, count = samples.shape
+    step, width = samples.strides
+    return np.ndarray((rows, max(0, count - length + 1), length), samples.dtype, samples, 0, (step, width, width))
 
 
 def turned(samples: np.ndarray, offset: float, front: int) -> np.ndarray:

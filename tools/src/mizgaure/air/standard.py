@@ -128,6 +128,7 @@ def signal_symbol(points: np.ndarray, symbol: int, bandwidth: int) -> np.ndarray
     return made
 
 
+@lru_cache(maxsize=64)
 def pilots(rate: Rate, symbols: int, streams: int = 0, first: int = 3) -> np.ndarray:
     """The standard's pilots of data symbols (clause 20.3.11.10): float64, shape (symbols, pilots, streams), each 1 or -1.
 
@@ -142,12 +143,13 @@ def pilots(rate: Rate, symbols: int, streams: int = 0, first: int = 3) -> np.nda
     """
     signs = np.array(_PILOTS[rate.bandwidth][(streams or rate.streams) - 1], float)
     n, k = np.arange(symbols)[:, None], np.arange(rate.pilots)[None, :]
-    return signs[:, (n + k) % rate.pilots].transpose(1, 2, 0) * polarity()[(n + first) % 127][:, :, None]
+    return _kept(signs[:, (n + k) % rate.pilots].transpose(1, 2, 0) * polarity()[(n + first) % 127][:, :, None])
 
 
+@lru_cache(maxsize=None)
 def pilot_places(bandwidth: int) -> np.ndarray:
     """Where the pilots stand among the 56 or 114 subcarriers."""
-    return np.array(PILOT_INDEXES[bandwidth])
+    return _kept(np.array(PILOT_INDEXES[bandwidth]))
 
 
 def chain_shifts(chains: int) -> np.ndarray:

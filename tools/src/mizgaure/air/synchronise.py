@@ -9,6 +9,7 @@ so the same limits serve any number of antennas, and any noise on them.
 
 from __future__ import annotations
 
+import cmath
 from dataclasses import dataclass
 from functools import lru_cache
 from typing import Iterator, Optional, Tuple
@@ -17,6 +18,7 @@ import numpy as np
 
 from . import standard
 from .channels import Channel
+from .spectra import windows_of
 from .standard import SHORT_LAG, TRANSFORM
 
 BLOCK, WINDOW = SHORT_LAG, 9  # samples whose products are added first, and how many such sums there are in 7.2 microseconds
@@ -30,7 +32,10 @@ LEAST_NOISE = 1e-4  # of the noise of the antenna with the most, which every ant
 TO_LONG = 192  # samples from a packet's beginning to its first long symbol, behind that one's guard interval
 REACH = 64  # samples by which that symbol may begin earlier or later than a candidate says
 EARLY = 16  # samples by which the long training is looked at earlier than at its peak
+LISTENED = 2 * REACH + EARLY + 2 * TRANSFORM  # samples among which the long training is looked for
+TIMES = np.arange(LISTENED)
 NUMBERS = np.arange(-26, 27)
+PLACES, IN_USE = NUMBERS % TRANSFORM, 52  # of these numbers in a transform, and how many of them are in use
 
 
 @dataclass(frozen=True)
@@ -169,25 +174,22 @@ def find_training(channel: Channel, candidate: Candidate, noise: np.ndarray) -> 
         By which rows are weighed.
     """
     first = candidate.instant + TO_LONG - REACH - EARLY
-    count = 2 * REACH + EARLY + 2 * TRANSFORM
-    if first < 0 or first + count > channel.stop:
+    if first < 0 or first + LISTENED > channel.stop:
         return None
-    heard = channel.read(first, count)
-    times = np.arange(count)
-    samples = heard * np.exp(-2j * np.pi * candidate.offset * times) / np.sqrt(noise)[:, None]
+    heard = channel.read(first, LISTENED)
+    weights = 1 / np.sqrt(noise)[:, None]
+    samples = heard * (np.exp(-2j * np.pi * candidate.offset * TIMES) * weights)
     energy = long_correlation(samples)
     begin = EARLY + int((energy[EARLY:-TRANSFORM] + energy[EARLY + TRANSFORM :]).argmax())
     front, behind = samples[:, begin - EARLY : begin + TRANSFORM], samples[:, begin - EARLY + TRANSFORM : begin + 2 * TRANSFORM]
-    offset = candidate.offset + float(np.angle(np.vdot(front, behind))) / (2 * np.pi * TRANSFORM)
-    at = slice(begin - EARLY, begin - EARLY + 2 * TRANSFORM)
-    turned = heard[:, at] * np.exp(-2j * np.pi * offset * (times[at] - begin))
-    symbols = np.fft.fft(turned.reshape(-1, 2, TRANSFORM), axis=-1)[..., NUMBERS % TRANSFORM] * standard.long_training(20)[2:-2].real
-    links = symbols.mean(axis=1)
-    if not agreement(links / np.sqrt(noise)[:, None]) > AGREED:
+    offset = candidate.offset + cmath.phase(np.vdot(front, behind)) / (2 * np.pi * TRANSFORM)
+    turned = heard[:, begin - EARLY : begin - EARLY + 2 * TRANSFORM] * np.exp(-2j * np.pi * offset * (TIMES[: 2 * TRANSFORM] - EARLY))
+    symbols = np.fft.fft(turned.reshape(-1, 2, TRANSFORM))[..., PLACES] * standard.long_training(20)[2:-2].real
+    links = (symbols[:, 0] + symbols[:, 1]) / 2
+    if not agreement(links * weights) > AGREED:
         return None
-    used = NUMBERS != 0
-    power = np.mean(np.abs(symbols[:, 0, used] - symbols[:, 1, used]) ** 2, axis=1) / 2
-    signal = np.maximum(np.mean(np.abs(links[:, used]) ** 2, axis=1) - power / 2, 0)
+    power = powers_of(symbols[:, 0] - symbols[:, 1]) / (2 * IN_USE)  # both are 0 on subcarrier 0
+    signal = np.maximum(powers_of(links) / IN_USE - power / 2, 0)
     if not signal.any():
         return None
     floor = max(LEAST_NOISE * float(power.max()), 1e-12 * float(signal.max()))
@@ -197,12 +199,20 @@ def find_training(channel: Channel, candidate: Candidate, noise: np.ndarray) -> 
 def agreement(links: np.ndarray) -> float:
     """How far neighbouring subcarriers agree once the training's signs are taken off, beside what chance makes of it, in power.
 
+    Products are added over rows first, since what rows hear of one transmitter isn't independent.
+
     Parameters
     ----------
     links : ndarray of complex128, shape (rows, subcarriers)
     """
-    chance = float(np.sum(np.abs(links[:, :-1]) ** 2 * np.abs(links[:, 1:]) ** 2))
-    return abs(np.vdot(links[:, :-1], links[:, 1:])) ** 2 / chance if chance > 0 else 0.0
+    products = np.einsum("rk,rk->k", links[:, :-1].conj(), links[:, 1:])
+    chance = float(np.vdot(products, products).real)
+    return abs(complex(products.sum())) ** 2 / chance if chance > 0 else 0.0
+
+
+def powers_of(values: np.ndarray) -> np.ndarray:
+    """The power of each row of complex numbers: float64, shape (rows,)."""
+    return np.einsum("rk,rk->r", values.real, values.real) + np.einsum("rk,rk->r", values.imag, values.imag)
 
 
 @lru_cache(maxsize=None)
@@ -233,5 +243,10 @@ def long_correlation(samples: np.ndarray) -> np.ndarray:
     -------
     ndarray of float64, shape (instants - 63,)
     """
-    windows = np.lib.stride_tricks.sliding_window_view(samples, TRANSFORM, axis=1)
-    return np.sum(np.abs(windows @ long_symbol().conj()) ** 2, axis=0)
+    made = windows_of(samples, TRANSFORM) @ _conjugated_symbol()
+    return np.sum(made.real**2 + made.imag**2, axis=0)
+
+
+@lru_cache(maxsize=None)
+def _conjugated_symbol() -> np.ndarray:
+    return long_symbol().conj()

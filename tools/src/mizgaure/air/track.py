@@ -7,6 +7,7 @@ combined over antennas against what is expected, z_nk is about w exp(i (phase_n 
 
 from __future__ import annotations
 
+import cmath
 from dataclasses import dataclass
 from functools import lru_cache
 from typing import Optional, Tuple
@@ -22,7 +23,8 @@ ROUNDS = 4
 PLACES, FINE = (-20, 6), 0.125  # samples at 20 MHz behind a guard interval at which windows may begin, and how finely they are tried
 RATIO = 0.5  # dB from one ratio of a channel to its noise to the next, where its place is sought
 LEAST_ERROR = 1e-4  # of a channel's power, which its estimate is taken to have at least
-LEAST_BEHIND, LEAST_POWER = 4, 8.0  # symbols behind a step, and the pilots' power beside the noise, where one is looked for
+LEAST_BEHIND, LEAST_POWER = 4, 8.0  # symbols on both sides of a step, and the power of a symbol's pilots beside the noise, where one is looked for
+FEW_BEHIND, AMPLE_POWER = 2, 100.0  # the same where its samples can be told by fewer symbols
 AS_IT_SHOULD, ASTRAY = 0.88, 0.7  # how far pilots agree where all is well, at least, and behind a step, at most
 CLEARLY = 0.02  # by how much they agree better with a step than without, at least
 FARTHEST = 12  # samples of a step whose number is told
@@ -82,26 +84,22 @@ def phases_of(pilots: np.ndarray) -> np.ndarray:
     trend = 0.0
     for lag in (1, 4, 16, 64):  # the mean turn from symbol to symbol, finer and finer
         if count > 2 * lag or lag == 1:
-            more = float(np.angle(np.vdot(straight[:-lag], straight[lag:]))) / lag
-            trend += more
+            trend += cmath.phase(np.vdot(straight[:-lag], straight[lag:])) / lag
             straight = sums * np.exp(-1j * trend * symbols)
-    best, least = straight, np.inf
-    for half in HALF_WIDTHS:
-        if half > 1 and half >= count:
-            break
-        around = _around(straight, half)
-        others = around - straight
-        wrong = float(np.sum(np.abs(straight) - np.real(straight * others.conj()) / np.maximum(np.abs(others), 1e-300)))
-        if wrong < least:
-            best, least = around, wrong
-    return trend * symbols + np.angle(best)
+    low, high = _around(count)
+    before = np.zeros(count + 1, complex)
+    np.cumsum(straight, out=before[1:])
+    around = before[high] - before[low]
+    others = around - straight
+    right = np.sum((straight.conj() * others).real / np.maximum(np.abs(others), 1e-300), axis=1)
+    return trend * symbols + np.angle(around[int(right.argmax())])
 
 
-def _around(values: np.ndarray, half: int) -> np.ndarray:
-    """Sums over every value and those up to ``half`` places beside it."""
-    sums = np.concatenate(([0], np.cumsum(values)))
-    places = np.arange(values.size)
-    return sums[np.minimum(places + half + 1, values.size)] - sums[np.maximum(places - half, 0)]
+@lru_cache(maxsize=64)
+def _around(count: int) -> Tuple[np.ndarray, np.ndarray]:
+    """For each half width, and each of so many symbols, where those begin and end that are up to it beside: int64, shape (widths, symbols)."""
+    halves = np.array([half for half in HALF_WIDTHS if half == 1 or half < count])[:, None]
+    return np.maximum(np.arange(count) - halves, 0), np.minimum(np.arange(count) + halves + 1, count)
 
 
 def smoothed(channel: np.ndarray, numbers: np.ndarray, noise: np.ndarray, delays: np.ndarray, length: int, rounds: int = ROUNDS) -> np.ndarray:
@@ -125,27 +123,39 @@ def smoothed(channel: np.ndarray, numbers: np.ndarray, noise: np.ndarray, delays
     rounds : int
         In which the powers are found.
     """
-    waves, gram = _waves(numbers.tobytes(), noise.tobytes(), delays.tobytes(), length)
-    heard = np.ascontiguousarray(waves.conj().T @ (channel / noise).T).view(float)
-    powers = np.full(len(delays), max(float(np.mean(np.abs(channel) ** 2)) / len(delays), 1e-30))
-    taps, one = heard, np.eye(len(delays))
-    for _ in range(rounds):
+    waves, weighed, gram = _waves(numbers.tobytes(), noise.tobytes(), delays.tobytes(), length)
+    count = len(delays)
+    heard = np.ascontiguousarray((channel @ weighed).T).view(float)
+    powers = np.full(count, max(mean_power(channel) / count, 1e-30))
+    for left in range(rounds - 1, -1, -1):
         roots = np.sqrt(powers)
-        inverse = np.linalg.inv(roots[:, None] * gram * roots + one)
-        taps = roots[:, None] * (inverse @ (roots[:, None] * heard))
-        certain = np.maximum(1 - np.diagonal(inverse), 1e-9)
-        powers = np.maximum(np.sum(taps**2, axis=1) / (len(channel) * certain), 1e-30)
-    return (waves @ taps.view(complex)).T
+        beside = gram * roots
+        beside *= roots[:, None]
+        beside.reshape(-1)[:: count + 1] += 1
+        wanted = roots[:, None] * heard
+        if not left:
+            return (roots[:, None] * np.linalg.solve(beside, wanted)).view(complex).T @ waves
+        inverse = np.linalg.inv(beside)
+        taps = inverse @ wanted
+        certain = np.maximum(1 - inverse.diagonal(), 1e-9)
+        powers = np.maximum(powers * np.einsum("dl,dl->d", taps, taps) / (len(channel) * certain), 1e-30)
+    return channel
+
+
+def mean_power(values: np.ndarray) -> float:
+    """The mean power of complex numbers that stand one behind the other."""
+    return float(np.vdot(values, values).real) / values.size
 
 
 @lru_cache(maxsize=32)
-def _waves(numbers: bytes, noise: bytes, delays: bytes, length: int) -> Tuple[np.ndarray, np.ndarray]:
-    """What taps at delays are on subcarriers, (subcarriers, delays), and their products, weighed by the noise, (delays, delays).
+def _waves(numbers: bytes, noise: bytes, delays: bytes, length: int) -> Tuple[np.ndarray, np.ndarray, np.ndarray]:
+    """What taps at delays are on subcarriers, (delays, subcarriers); the same conjugated and divided by the noise, (subcarriers, delays).
 
-    The latter are real numbers, since subcarriers lie alike on both sides.
+    And their products, weighed by the noise, (delays, delays), which are real numbers, since subcarriers lie alike on both sides.
     """
-    waves = np.exp(-2j * np.pi * np.outer(np.frombuffer(numbers, np.int64), np.frombuffer(delays, np.int64)) / length)
-    return waves, ((waves.conj().T / np.frombuffer(noise)) @ waves).real
+    waves = np.exp(-2j * np.pi * np.outer(np.frombuffer(delays, np.int64), np.frombuffer(numbers, np.int64)) / length)
+    weighed = np.ascontiguousarray((waves.conj() / np.frombuffer(noise)).T)
+    return waves, weighed, (waves @ weighed).real
 
 
 @dataclass(frozen=True)
@@ -191,16 +201,16 @@ def window_of(channel: np.ndarray, numbers: np.ndarray, noise: float, guard: int
         How far apart the places are, in samples.
     """
     length = TRANSFORM * over
-    power = float(np.mean(np.abs(channel) ** 2))
+    power = mean_power(channel)
     noise = max(noise, LEAST_ERROR * power)
     ratio = round(10 / RATIO * np.log10(max(power - noise, noise) / noise))
     weights, pairs, apart = _fit(numbers.tobytes(), guard / length, ratio)
     seen = channel * (np.exp(-2j * np.pi / length * (early - guard / 2) * numbers) / np.sqrt(noise))
     products = (seen.T @ seen.conj()).reshape(-1)[pairs] * weights
     # The misfit is a sum over pairs of subcarriers, and those that are equally far apart turn alike from place to place.
-    sums = np.bincount(apart, products.real) + 1j * np.bincount(apart, products.imag)
-    begins, waves = _places(over, fine, len(sums))
-    misfit = (waves @ sums).real
+    sums = np.bincount(apart, products.real), np.bincount(apart, products.imag)
+    begins, waves = _places(over, fine, len(sums[0]))
+    misfit = waves @ np.concatenate(sums)
     best = int(misfit.argmin())
     good = misfit <= misfit[best] + AS_GOOD[0] + AS_GOOD[1] * len(channel)
     low = high = best
@@ -241,12 +251,14 @@ def _fit(numbers: bytes, guard: float, ratio: int) -> Tuple[np.ndarray, np.ndarr
 
 @lru_cache(maxsize=None)
 def _places(over: int, fine: float, count: int) -> Tuple[np.ndarray, np.ndarray]:
-    """The places that are tried for windows, and by what products of subcarriers 0 to ``count`` - 1 apart are turned there.
+    """The places that are tried for windows, and what products of subcarriers 0 to ``count`` - 1 apart add there.
 
-    A pair stands for both of its orders, but for a subcarrier with itself.
+    The latter multiplies their real parts, and then their imaginary parts: float64, shape (places, 2 * count). A pair stands for
+    both of its orders, but for a subcarrier with itself.
     """
     begins = np.arange(PLACES[0] * over, PLACES[1] * over, fine)
-    return begins, np.exp(2j * np.pi / (TRANSFORM * over) * np.outer(begins, np.arange(count))) * np.where(np.arange(count) > 0, 2, 1)
+    turned = np.exp(2j * np.pi / (TRANSFORM * over) * np.outer(begins, np.arange(count))) * np.where(np.arange(count) > 0, 2, 1)
+    return begins, np.concatenate((turned.real, -turned.imag), axis=1)
 
 
 def shifts_of(drift: float, times: np.ndarray, rest: float) -> Tuple[np.ndarray, np.ndarray]:
@@ -310,24 +322,28 @@ def step_of(pilots: np.ndarray, powers: np.ndarray, turns: np.ndarray, times: np
         That was found.
     """
     total, count = powers.sum(axis=1), len(pilots)
-    if count < 2 * LEAST_BEHIND or total.mean() < LEAST_POWER:
+    few = FEW_BEHIND if total.mean() > AMPLE_POWER else LEAST_BEHIND
+    if count < 2 * few + 1 or total.mean() < LEAST_POWER:
         return None
     agrees = _agreeing(pilots, turns, drift * times)
     ends = np.cumsum(agrees) / np.cumsum(total), np.cumsum(agrees[::-1]) / np.cumsum(total[::-1])
-    if min(end[LEAST_BEHIND - 1 :].min() for end in ends) > AS_IT_SHOULD:
+    if min(end[few - 1 :].min() for end in ends) > AS_IT_SHOULD:
         return None
     best, step, well = float(agrees.sum()) + CLEARLY * float(total.sum()), None, 0.0
     for tried in np.unique(np.append(np.linspace(-MOST_DRIFT, MOST_DRIFT, 25), drift)):
         front = np.cumsum(_agreeing(pilots, turns, tried * times))
         for samples in (*range(-FARTHEST, 0), *range(1, FARTHEST + 1)):
             behind = _agreeing(pilots, turns, tried * times + samples)
-            sums = front[:-1] + np.cumsum(behind[::-1])[-2::-1]  # with a step in front of symbol 1 and so on
-            place = LEAST_BEHIND - 1 + int(sums[LEAST_BEHIND - 1 : count - LEAST_BEHIND].argmax())
+            # With a step in symbol 1 and so on, which may agree with nothing.
+            sums = front[:-2] + total[1:-1] + np.cumsum(behind[::-1])[-3::-1]
+            place = few - 1 + int(sums[few - 1 : count - 1 - few].argmax())
             if sums[place] > best:
                 best, step = float(sums[place]), Step(place + 1, samples)
-                well = float(behind[place + 1 :].sum() / total[place + 1 :].sum())
+                well = float(behind[place + 2 :].sum() / total[place + 2 :].sum())
     if step is not None and well > AS_IT_SHOULD:
         return step
+    if count < 2 * LEAST_BEHIND:
+        return None
     places = np.arange(LEAST_BEHIND, count - LEAST_BEHIND + 1)
     before, after = ends[0][places - 1], ends[1][count - places - 1]
     place = int(((before - after) * np.sqrt(places * (count - places))).argmax())

@@ -62,11 +62,16 @@ def bins_of(rate: float) -> int:
     return max(8, round(NOISE_BANDWIDTH * rate / RESOLUTION))
 
 
+def window_of(count: int) -> np.ndarray:
+    """The window of segments of so many samples."""
+    turns = 2 * np.pi * np.arange(count) / count
+    return np.sum([term * np.cos(n * turns) for n, term in enumerate(BLACKMAN_HARRIS)], axis=0)
+
+
 def spectrum_of(samples: np.ndarray, rate: float) -> Spectrum:
     """The spectrum of samples of shape (antennas, instants), by overlapping segments."""
     count = bins_of(rate)
-    turns = 2 * np.pi * np.arange(count) / count
-    window = sum(term * np.cos(n * turns) for n, term in enumerate(BLACKMAN_HARRIS))
+    window = window_of(count)
     made = Spectrum(np.zeros((samples.shape[0], count)))
     for first in range(0, samples.shape[1] - count + 1, count // 2):
         made.powers += np.abs(np.fft.fft(samples[:, first : first + count] * window)) ** 2
@@ -314,7 +319,7 @@ def interval_of(values: Sequence[float], more: float = 0.0) -> Tuple[float, floa
 
 
 def findings(packets: Iterable[Measured], frequency: Optional[float], reference: Optional[float], rate: float) -> List[Finding]:
-    """The outcomes of all tests, bandwidth by bandwidth.
+    """The outcomes of all tests, channel by channel.
 
     Parameters
     ----------
@@ -328,12 +333,22 @@ def findings(packets: Iterable[Measured], frequency: Optional[float], reference:
     """
     measured = list(packets)
     made: List[Finding] = []
-    for bandwidth in sorted({packet.rate.bandwidth for packet in measured}):
-        alike = [packet for packet in measured if packet.rate.bandwidth == bandwidth]
-        made += [_mask(alike, bandwidth, frequency, rate), _flatness(alike, bandwidth), *_tolerances(alike, bandwidth, frequency, reference),
-                 *_leakages(alike, bandwidth)]
+    for channel, alike in channels_of(measured):
+        found = [_mask(alike, frequency, rate), _flatness(alike), *_tolerances(alike, frequency, reference), *_leakages(alike)]
+        made += [replace(each, subject=f"{channel}{each.subject}") for each in found]
     for each in sorted({packet.rate for packet in measured}, key=lambda found: (found.bandwidth, found.mcs)):
         made += _constellation([packet for packet in measured if packet.rate == each], each)
+    return made
+
+
+def channels_of(packets: Sequence[Measured]) -> List[Tuple[str, List[Measured]]]:
+    """The packets of each bandwidth and middle, and these in words: the middle where packets of one bandwidth have several."""
+    channels = sorted({(packet.rate.bandwidth, packet.middle) for packet in packets})
+    made = []
+    for bandwidth, middle in channels:
+        several = sum(each == bandwidth for each, _ in channels) > 1
+        words = f"{bandwidth} MHz" + (f" at {middle / 1e6:+g} MHz" if several else "")
+        made.append((words, [packet for packet in packets if (packet.rate.bandwidth, packet.middle) == (bandwidth, middle)]))
     return made
 
 
@@ -349,6 +364,8 @@ class MaskCurve:
         In dBr.
     segments : int
     antenna : int
+    top : float
+        The density that is 0 dBr, in dB of full scale per Hz.
     """
 
     offsets: np.ndarray
@@ -357,6 +374,7 @@ class MaskCurve:
     noise: np.ndarray
     segments: int
     antenna: int
+    top: float
 
     @property
     def judged(self) -> np.ndarray:
@@ -369,8 +387,9 @@ class MaskCurve:
         return int(np.argmin(np.where(self.judged & (self.mask < 0), self.mask - self.level, np.inf)))
 
 
-def mask_curve(packets: Sequence[Measured], bandwidth: int, frequency: Optional[float], rate: float) -> MaskCurve:
-    """The spectrum of packets beside the mask."""
+def mask_curve(packets: Sequence[Measured], frequency: Optional[float], rate: float) -> MaskCurve:
+    """The spectrum of packets of one channel beside the mask."""
+    bandwidth = packets[0].rate.bandwidth
     curves = []
     count = packets[0].spectrum.powers.shape[1]
     for antenna in range(packets[0].spectrum.powers.shape[0]):
@@ -385,7 +404,8 @@ def mask_curve(packets: Sequence[Measured], bandwidth: int, frequency: Optional[
             continue
         mask = limits.mask_at(offsets, bandwidth, limits.band_of(frequency))
         level, noise = (10 * np.log10(np.maximum(powers, 1e-30 * top) / top) for powers in (density, silence))
-        curves.append(MaskCurve(offsets[order], level[order], mask[order], noise[order], sum(packet.spectrum.segments for packet in packets), antenna))
+        curves.append(MaskCurve(offsets[order], level[order], mask[order], noise[order], sum(packet.spectrum.segments for packet in packets), antenna,
+                                10 * np.log10(top / (rate * np.sum(window_of(count) ** 2)))))
     return min(curves, key=lambda curve: float(curve.mask[curve.worst] - curve.level[curve.worst]))
 
 
@@ -394,46 +414,46 @@ def _summed(spectra: Sequence[Spectrum]) -> np.ndarray:
     return np.sum([spectrum.powers for spectrum in spectra], axis=0) / max(sum(spectrum.segments for spectrum in spectra), 1)
 
 
-def _mask(packets: Sequence[Measured], bandwidth: int, frequency: Optional[float], rate: float) -> Finding:
-    curve = mask_curve(packets, bandwidth, frequency, rate)
+def _mask(packets: Sequence[Measured], frequency: Optional[float], rate: float) -> Finding:
+    curve = mask_curve(packets, frequency, rate)
     worst = curve.worst
     margin = float(curve.mask[worst] - curve.level[worst])
     half = 1.96 * 10 / np.log(10) / np.sqrt(max(curve.segments, 1))
-    reach, needed = float(np.min(np.abs(curve.offsets[[0, -1]]))), limits.reach_of(bandwidth)
+    reach, needed = float(np.min(np.abs(curve.offsets[[0, -1]]))), limits.reach_of(packets[0].rate.bandwidth)
     unsure = ""
     if not (curve.judged | (curve.mask == 0)).all():
         hidden = float(np.min(np.abs(curve.offsets[~curve.judged & (curve.mask < 0)])))
         unsure = f"from {hidden / 1e6:.1f} MHz on the recorder's own noise reaches the mask"
     if reach < needed:
         unsure = f"the rate shows nothing beyond {reach / 1e6:.1f} MHz, and the mask goes on to {needed / 1e6:g} MHz"
-    return Finding(limits.SPECTRAL_MASK, f"{bandwidth} MHz", (0.0, np.inf), "dB", margin, (margin - half, margin + half), len(packets),
+    return Finding(limits.SPECTRAL_MASK, ", distance below it", (0.0, np.inf), "dB", margin, (margin - half, margin + half), len(packets),
                    f"{curve.offsets[worst] / 1e6:+.2f} MHz of antenna {curve.antenna}", unsure)
 
 
-def deviations(packets: Sequence[Measured], bandwidth: int) -> np.ndarray:
+def deviations(packets: Sequence[Measured]) -> np.ndarray:
     """By how much the energy of each subcarrier deviates from the mean of the inner ones, in dB: shape (frames, antennas, subcarriers).
 
     Antennas that hear next to nothing have zeros.
     """
-    inner, _, _ = limits.flatness_limits(packets[0].rate.frequencies, bandwidth)
+    inner, _, _ = limits.flatness_limits(packets[0].rate.frequencies, packets[0].rate.bandwidth)
     energies = np.stack([packet.energies for packet in packets])
     means = energies[..., inner].mean(axis=-1, keepdims=True)
     heard = means > DEAF * means.max(axis=1, keepdims=True)
     return np.where(heard, 10 * np.log10(np.maximum(energies, 1e-300) / np.maximum(means, 1e-300)), 0.0)
 
 
-def _flatness(packets: Sequence[Measured], bandwidth: int) -> Finding:
+def _flatness(packets: Sequence[Measured]) -> Finding:
     numbers = packets[0].rate.frequencies
-    found = deviations(packets, bandwidth)
-    _, low, high = limits.flatness_limits(numbers, bandwidth)
+    found = deviations(packets)
+    _, low, high = limits.flatness_limits(numbers, packets[0].rate.bandwidth)
     mean = found.mean(axis=0)
     margins = np.minimum(mean - low, high - mean)
     antenna, place = np.unravel_index(int(np.argmin(margins)), margins.shape)
-    return Finding(limits.FLATNESS, f"{bandwidth} MHz", (float(low[place]), float(high[place])), "dB", float(mean[antenna, place]),
+    return Finding(limits.FLATNESS, "", (float(low[place]), float(high[place])), "dB", float(mean[antenna, place]),
                    interval_of(found[:, antenna, place].tolist()), len(packets), f"subcarrier {numbers[place]} of antenna {antenna}")
 
 
-def _tolerances(packets: Sequence[Measured], bandwidth: int, frequency: Optional[float], reference: Optional[float]) -> List[Finding]:
+def _tolerances(packets: Sequence[Measured], frequency: Optional[float], reference: Optional[float]) -> List[Finding]:
     """Of the centre frequency, where the carrier is known, and of the symbol clock."""
     band = limits.band_of(frequency)
     allowed = (-limits.TOLERANCE[band], limits.TOLERANCE[band]) if band else (-limits.TOLERANCE["5 GHz"], limits.TOLERANCE["5 GHz"])
@@ -443,16 +463,16 @@ def _tolerances(packets: Sequence[Measured], bandwidth: int, frequency: Optional
     made = []
     for limit, values in ((limits.FREQUENCY, [1e6 * packet.offset / (frequency + packet.middle if frequency else np.inf) for packet in packets]),
                           (limits.CLOCK, [packet.clock for packet in packets])):
-        finding = Finding(limit, f"{bandwidth} MHz", allowed, "ppm", float(np.mean(values)), interval_of(values, more), len(packets), "", unknown)
+        finding = Finding(limit, "", allowed, "ppm", float(np.mean(values)), interval_of(values, more), len(packets), "", unknown)
         made.append(replace(finding, allowed=None) if unknown else finding)
     return made
 
 
-def _leakages(packets: Sequence[Measured], bandwidth: int) -> List[Finding]:
+def _leakages(packets: Sequence[Measured]) -> List[Finding]:
     """At the packets' own middle, and of those in one half of 40 MHz also in the middle of that, since either may be the transmitter's."""
-    made = [_leakage([packet.leakage for packet in packets], f"{bandwidth} MHz", limits.LEAKAGE[bandwidth])]
+    made = [_leakage([packet.leakage for packet in packets], "", limits.LEAKAGE[packets[0].rate.bandwidth])]
     between = [packet.between for packet in packets if packet.between is not None]
-    return made + ([_leakage(between, "20 MHz in one half of 40 MHz", limits.LEAKAGE_BETWEEN)] if between else [])
+    return made + ([_leakage(between, " in one half of 40 MHz", limits.LEAKAGE_BETWEEN)] if between else [])
 
 
 def _leakage(powers: Sequence[np.ndarray], subject: str, most: float) -> Finding:

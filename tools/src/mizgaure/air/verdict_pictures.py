@@ -1,4 +1,7 @@
-"""The transmitter tests drawn: the mask over the spectrum, flatness, errors over subcarriers and over symbols, the channel, and phases."""
+"""The transmitter tests drawn: the mask over the spectrum, flatness, errors over subcarriers and over symbols, the channel, and phases.
+
+Legends stand below their panels, where they hide nothing.
+"""
 
 from __future__ import annotations
 
@@ -14,18 +17,18 @@ from .transmitter import Measured, deviations, mask_curve
 if TYPE_CHECKING:
     from matplotlib.figure import Figure
 
-SIZE = (4.6, 3.7)
+SIZE = (4.6, 4.0)
 SMALL = {**STYLE, "font.size": 9, "axes.titlesize": 10, "axes.labelsize": 9}
 DASHED = (0, (5, 2))
 
 
 def drawn(packets: Sequence[Measured], frequency: Optional[float], rate: float) -> Iterator[Tuple[str, "Figure"]]:
-    """What each picture of packets of one bandwidth shows, and the picture.
+    """What each picture of packets of one channel shows, and the picture.
 
     Parameters
     ----------
     packets : sequence of Measured
-        Of one bandwidth.
+        Of one channel.
     frequency : float, optional
         Of the carrier in Hz.
     rate : float
@@ -42,7 +45,7 @@ def drawn(packets: Sequence[Measured], frequency: Optional[float], rate: float) 
 
 
 def _mask(panel, packets: Sequence[Measured], frequency: Optional[float], rate: float) -> None:
-    curve = mask_curve(packets, packets[0].rate.bandwidth, frequency, rate)
+    curve = mask_curve(packets, frequency, rate)
     middle = 0.0 if frequency is None else frequency + packets[0].middle
     places = (middle + curve.offsets) / 1e6
     panel.plot(places, curve.level, color=BLUE, linewidth=1, label=f"antenna {curve.antenna}, {curve.segments} segments")
@@ -52,19 +55,31 @@ def _mask(panel, packets: Sequence[Measured], frequency: Optional[float], rate: 
     panel.set(xlabel="offset (MHz)" if frequency is None else "frequency (MHz)", ylabel="density in 100 kHz (dB beside the largest)", title="spectral mask",
               ylim=(max(-90.0, float(curve.level.min()) - 3), 5))
     panel.locator_params(axis="x", nbins=5)
-    panel.legend(loc="lower center", fontsize=8)
+    panel.secondary_yaxis("right", functions=(lambda level: level + curve.top, lambda level: level - curve.top)).set_ylabel("dB of full scale per Hz")
+    _legend(panel)
+
+
+def _legend(panel, size: int = 8) -> None:
+    panel.legend(loc="upper center", bbox_to_anchor=(0.5, -0.15), ncol=2, fontsize=size)
+
+
+def _limited(panel, packets: Sequence[Measured]) -> None:
+    """The limit of each rate, which is that of all subcarriers and symbols together."""
+    for limit in sorted({packet.rate.error_limit for packet in packets}):
+        panel.axhline(limit, color=INK, linewidth=1, linestyle=DASHED, label=f"limit of all together, {limit} dB")
 
 
 def _flatness(panel, packets: Sequence[Measured], frequency: Optional[float], rate: float) -> None:
     numbers, bandwidth = packets[0].rate.frequencies, packets[0].rate.bandwidth
     _, low, high = limits.flatness_limits(numbers, bandwidth)
-    for antenna, values in enumerate(deviations(packets, bandwidth).mean(axis=0)):
+    for antenna, values in enumerate(deviations(packets).mean(axis=0)):
         colour, marker, line = STREAM_STYLES[antenna % 4]
         panel.plot(numbers, values, color=colour, marker=marker, markersize=2.5, linestyle=line, linewidth=0.8, label=f"antenna {antenna}")
     for limit in (low, high):
         panel.step(numbers, limit, where="mid", color=INK, linewidth=1, linestyle=DASHED)
+    panel.plot([], [], color=INK, linewidth=1, linestyle=DASHED, label="limits")
     panel.set(xlabel="subcarrier number", ylabel="energy beside the inner subcarriers' mean (dB)", title="spectral flatness")
-    panel.legend(loc="lower center", fontsize=8)
+    _legend(panel)
 
 
 def _root_mean(errors: List[np.ndarray]) -> np.ndarray:
@@ -78,14 +93,17 @@ def _over_subcarriers(panel, packets: Sequence[Measured], frequency: Optional[fl
         values = _root_mean([packet.errors[:, :, stream].mean(axis=0) for packet in packets if packet.rate.streams > stream])
         panel.plot(packets[0].rate.frequencies, values, color=colour, marker=marker, markersize=2.5, linestyle=line, linewidth=0.8, label=f"stream {stream + 1}")
     panel.set(xlabel="subcarrier number", ylabel="r.m.s. error (dB)", title="constellation error over subcarriers")
-    panel.legend(loc="upper center", fontsize=8)
+    _limited(panel, packets)
+    _legend(panel)
 
 
 def _over_symbols(panel, packets: Sequence[Measured], frequency: Optional[float], rate: float) -> None:
     longest = max(packets, key=lambda packet: packet.symbols)
     values = [_root_mean([packet.errors[n].mean() for packet in packets if packet.symbols > n]) for n in range(longest.symbols)]
-    panel.plot(np.arange(longest.symbols), values, color=BLUE, marker="o", markersize=2.5, linewidth=0.8)
+    panel.plot(np.arange(longest.symbols), values, color=BLUE, marker="o", markersize=2.5, linewidth=0.8, label=f"{len(packets)} frames")
     panel.set(xlabel="symbol", ylabel="r.m.s. error of all frames (dB)", title="constellation error over symbols")
+    _limited(panel, packets)
+    _legend(panel)
 
 
 def _channel(panel, packets: Sequence[Measured], frequency: Optional[float], rate: float) -> None:
@@ -95,7 +113,7 @@ def _channel(panel, packets: Sequence[Measured], frequency: Optional[float], rat
             panel.plot(packets[0].rate.frequencies, decibels(np.maximum(gains, 1e-10)), color=colour, linestyle=line, linewidth=0.9,
                        label=f"stream {stream + 1}, antenna {antenna}")
     panel.set(xlabel="subcarrier number", ylabel="gain beside the noise (dB)", title="the channel of the first packet")
-    panel.legend(loc="lower center", fontsize=7, ncol=2)
+    _legend(panel, 7)
 
 
 def _delays(panel, packets: Sequence[Measured], frequency: Optional[float], rate: float) -> None:
@@ -107,9 +125,9 @@ def _delays(panel, packets: Sequence[Measured], frequency: Optional[float], rate
         colour, _, line = STREAM_STYLES[stream]
         panel.plot(delays, 10 * np.log10(np.maximum(values, 1e-30) / max(float(powers.max()), 1e-30)), color=colour, linestyle=line, linewidth=0.9,
                    label=f"stream {stream + 1}")
-    panel.set(xlabel="delay behind the window's guard interval (ns)", ylabel="power over all antennas (dB)", title="the first packet's channel over delays",
-              ylim=(-50, 3))
-    panel.legend(loc="upper right", fontsize=8)
+    panel.set(xlabel="delay behind the window's guard interval (ns)", ylabel="power over all antennas (dB beside the largest)",
+              title="the first packet's channel over delays", ylim=(-50, 3))
+    _legend(panel)
 
 
 def _phases(panel, packets: Sequence[Measured], frequency: Optional[float], rate: float) -> None:
@@ -117,4 +135,4 @@ def _phases(panel, packets: Sequence[Measured], frequency: Optional[float], rate
     panel.plot(before, color=ORANGE, marker="s", markersize=2.5, linestyle="--", linewidth=0.8, label="before tracking")
     panel.plot(after, color=BLUE, marker="o", markersize=2.5, linewidth=0.8, label="after it")
     panel.set(xlabel="symbol", ylabel="common phase (degrees)", title="the phase of the first packet's symbols")
-    panel.legend(loc="best", fontsize=8)
+    _legend(panel)

@@ -11,7 +11,7 @@ pieces there is no smoothing window.
 from __future__ import annotations
 
 from dataclasses import dataclass
-from typing import List, Optional, Tuple
+from typing import List, Optional, Sequence, Tuple
 
 import numpy as np
 
@@ -214,7 +214,12 @@ def packet(frame: SymbolsFrame, clock: Clock, begin: float = 0.0, short_guard: b
         The number of its first sample.
     samples : ndarray of complex128, shape (chains, samples)
     """
-    parts = [sampled(pieces, begin, clock) for pieces in pieces_of(frame, short_guard, aggregated, more, greenfield)]
+    return joined(pieces_of(frame, short_guard, aggregated, more, greenfield), begin, clock)
+
+
+def joined(pieces: Sequence[Pieces], begin: float, clock: Clock) -> Tuple[int, np.ndarray]:
+    """The pieces of a packet one behind the other; parameters as in `sampled`, and what is returned as in `packet`."""
+    parts = [sampled(each, begin, clock) for each in pieces]
     return parts[0][0], np.concatenate([samples for _, samples in parts], axis=1)
 
 

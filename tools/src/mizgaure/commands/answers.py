@@ -4,18 +4,17 @@ from __future__ import annotations
 
 import argparse
 import io
-import os
 from typing import BinaryIO, Dict, Iterator, Sequence, cast
 
 import numpy as np
 
 from ..answers import Answers, FrameAnswer, Jobs, Refused, exact
 from ..errors import FormatError, InputError, ProgramError
-from ..files import naming, reading, refuse_overwriting, writing
-from ..program import Progress, Radio
+from ..files import naming, refuse_overwriting, writing
+from ..program import Radio
 from ..shards import texts
 from ..workers import Workers
-from .base import Command, add_part, add_workers, refuse_both, write_arrays
+from .base import Command, add_part, add_workers, refuse_both, watching, write_arrays
 
 PIECE = 1 << 16
 
@@ -66,26 +65,8 @@ def _streamed(given: argparse.Namespace) -> Iterator[bytes]:
 
 def _shared(given: argparse.Namespace) -> Iterator[bytes]:
     path = given.radio if given.scheduler is not None else Radio(given.radio).path
-    with reading(given.capture) as stream:
-        watched = _Watched(stream, given.command)
-        try:
-            yield from texts(given.command, cast(BinaryIO, watched), Workers(given.processes or None, given.scheduler), path, given.part)
-        finally:
-            watched.bar.close()
-
-
-class _Watched:
-    """A stream with a bar that shows how far it was read."""
-
-    def __init__(self, stream: BinaryIO, command: str) -> None:
-        total = os.fstat(stream.fileno()).st_size if stream.seekable() else None
-        self.bar = Progress(total, f"radio {command}")
-        self._stream = stream
-
-    def read(self, count: int) -> bytes:
-        piece = self._stream.read(count)
-        self.bar.add(len(piece))
-        return piece
+    with watching(given.capture, f"radio {given.command}") as stream:
+        yield from texts(given.command, stream, Workers(given.processes or None, given.scheduler), path, given.part)
 
 
 class _Joined(io.RawIOBase):

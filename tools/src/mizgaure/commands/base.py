@@ -4,9 +4,11 @@ from __future__ import annotations
 
 import argparse
 import io
+import sys
+from contextlib import contextmanager
 from dataclasses import dataclass
 from pathlib import Path
-from typing import Any, BinaryIO, Callable, Iterator, List, Mapping, Optional, Sequence, Tuple, Union
+from typing import Any, BinaryIO, Callable, Iterable, Iterator, List, Mapping, Optional, Sequence, Tuple, TypeVar, Union, cast
 
 import numpy as np
 
@@ -16,9 +18,14 @@ from ..files import Source, naming, reading, refuse_overwriting
 from ..formats import CaptureFrame, read_htcp
 from ..channels import EXPONENTIAL, TAPPED, profile_of
 from ..channels import NAMES as CHANNELS
+from ..inside import Inside, receiver, unheeded
+from ..program import Progress, Radio, octets_left
 from ..quantise import FOR_SOFT, Gain
 from ..sweep import ESTIMATES, Setting
 from ..tables import Records, write_csv, write_json_lines
+
+
+Item = TypeVar("Item")
 
 
 @dataclass(frozen=True)
@@ -178,6 +185,12 @@ def refuse_both(given: argparse.Namespace) -> None:
         raise InputError("--processes is said of this machine, and with --scheduler its workers do the work")
 
 
+def refuse_idle(given: argparse.Namespace, name: str, idle: object, why: str) -> None:
+    """Refuse an option that does nothing here, with the reason."""
+    if idle and getattr(given, name) is not None:
+        raise InputError(f"--{name.replace('_', '-')} does nothing here: {why}")
+
+
 def refuse_tables(given: argparse.Namespace) -> None:
     """Refuse tables that are there already, before work is done for them."""
     for path in (given.csv, given.json):
@@ -204,6 +217,59 @@ def setting_of(given: argparse.Namespace, frames: int) -> Setting:
                       given.channel, given.profile, getattr(given, "errors", 0), getattr(given, "chunk", 1))
     setting.check()
     return setting
+
+
+def receiver_of(program: Optional[str]) -> Union[Inside, Radio]:
+    """The library, which is said, where it is there and no program is named; and else the program."""
+    found = receiver(program)
+    said = f"the reference is that of the proved library {found.path}" if isinstance(found, Inside) else unheeded(program)
+    if said:
+        print(f"mizgaure: {said}", file=sys.stderr)
+    return found
+
+
+# progress
+
+class WatchedStream:
+    """A stream with a bar that shows how far it was read; none where lines go to a terminal, which show it themselves.
+
+    Parameters
+    ----------
+    stream : binary stream
+    label : str
+    """
+
+    def __init__(self, stream: BinaryIO, label: str) -> None:
+        self.bar = Progress(octets_left(stream), label, sys.stderr.isatty() and not sys.stdout.isatty())
+        self._stream = stream
+
+    def read(self, count: int = -1) -> bytes:
+        """As that of the stream."""
+        piece = self._stream.read(count)
+        self.bar.add(len(piece))
+        return piece
+
+
+@contextmanager
+def watching(source: str, label: str) -> Iterator[BinaryIO]:
+    """Open a file for reading, ``"-"`` being standard input, with a bar while the block lasts."""
+    with reading(source) as stream:
+        watched = WatchedStream(stream, label)
+        try:
+            yield cast(BinaryIO, watched)
+        finally:
+            watched.bar.close()
+
+
+def counted(items: Iterable[Item], count: int, label: str, printing: bool = False) -> Iterator[Item]:
+    """Items as they come, with a bar that shows how many of so many were done; none where lines are printed to a terminal."""
+    bar = Progress(count, label, sys.stderr.isatty() and not (printing and sys.stdout.isatty()), " frames")
+    try:
+        for item in items:
+            yield item
+            bar.add(1)
+    finally:
+        bar.close()
 
 
 # files

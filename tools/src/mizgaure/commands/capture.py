@@ -13,7 +13,7 @@ from ..errors import InputError
 from ..files import naming, reading, refuse_overwriting
 from ..formats import write_htcp
 from ..quantise import MeasuredFrame, capture
-from .base import Command, gain, octets, unheard
+from .base import Command, counted, gain, octets, unheard
 
 
 def words(command: argparse.ArgumentParser) -> None:
@@ -28,7 +28,7 @@ def words(command: argparse.ArgumentParser) -> None:
 def run(given: argparse.Namespace) -> None:
     refuse_overwriting(given.output, given.force)
     made = []
-    for number, path in enumerate(given.frames):
+    for number, path in enumerate(counted(given.frames, len(given.frames), "capture")):
         with naming(path):
             made.append(capture([measured(path, number)], given.gain, first=number))
     frames = [frame for part in made for frame in part.frames]

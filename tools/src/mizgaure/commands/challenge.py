@@ -11,7 +11,7 @@ from ..errors import InputError
 from ..files import refuse_overwriting
 from ..program import Progress, Radio
 from ..rates import check_length
-from .base import Command, add_tables, level, positive_whole, refuse_tables, whole, write_tables
+from .base import Command, add_tables, level, positive_whole, refuse_idle, refuse_tables, whole, write_tables
 
 COLUMNS = ("name", "test", "clause", "bandwidth", "mcs", "packets", "length", "full_scale", "level", "right", "other", "per", "per_low", "per_high", "limit",
            "verdict")
@@ -47,6 +47,7 @@ def run(given: argparse.Namespace) -> int:
     if given.what == JUDGE:
         if said:
             raise InputError(f"--{said[0].replace('_', '-')} is said of recordings that are written")
+        refuse_idle(given, "radio", True, "what a device answers is judged without it")
         return _judge(given)
     if given.complete or given.csv or given.json:
         raise InputError("--complete, --csv and --json are said of judge")

@@ -7,7 +7,7 @@ import argparse
 from ..certificates import check_lines
 from ..errors import FormatError
 from ..files import naming
-from .base import Command
+from .base import Command, watching
 
 
 def words(command: argparse.ArgumentParser) -> None:
@@ -15,9 +15,9 @@ def words(command: argparse.ArgumentParser) -> None:
 
 
 def run(given: argparse.Namespace) -> None:
-    with naming(given.file):
+    with naming(given.file), watching(given.file, "check") as stream:
         line = ""
-        for line in check_lines(given.file):
+        for line in check_lines(stream):
             print(line)
         if line.startswith("refused "):
             _, kind, _, offset = line.split()

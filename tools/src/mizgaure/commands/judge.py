@@ -5,14 +5,13 @@ from __future__ import annotations
 import argparse
 import json
 from contextlib import ExitStack
-from typing import Dict, Iterator, List, Optional, Sequence, Union
+from typing import Dict, Iterator, List, Sequence, Union
 
 from ..errors import InputError
 from ..files import refuse_overwriting, writing
 from ..judge import SAME, Counts, FrameVerdict, judged, write_verdict
-from ..program import Radio
 from ..soft import SoftCounts, SoftVerdict, judged_soft
-from .base import Command, whole
+from .base import Command, receiver_of, refuse_idle, whole
 
 WORSE_STATUS = 1
 
@@ -35,9 +34,10 @@ def run(given: argparse.Namespace) -> int:
         raise InputError("the capture and the answers can't both be standard input")
     if given.soft and given.without:
         raise InputError("--without is said of answers to jobs and frames, and with --soft there are frames alone")
+    refuse_idle(given, "radio", given.reference, "--reference is in place of a run of it")
     if given.json:
         refuse_overwriting(given.json, given.force)
-    radio = None if given.reference else Radio(given.radio)
+    radio = None if given.reference else receiver_of(given.radio)
     counts: Union[Counts, SoftCounts] = SoftCounts(given.list) if given.soft else Counts(given.list)
     lines: List[str] = []
     with ExitStack() as stack:

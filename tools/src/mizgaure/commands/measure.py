@@ -3,8 +3,8 @@
 from __future__ import annotations
 
 import argparse
-from contextlib import ExitStack
-from typing import Any, Dict, Iterator, List, Optional, Tuple
+from contextlib import ExitStack, closing
+from typing import Any, Dict, Iterator, List, Optional, Tuple, Union
 
 import numpy as np
 
@@ -12,6 +12,8 @@ from ..answers import FrameAnswer, Jobs
 from ..errors import InputError
 from ..files import Source, naming, reading, refuse_overwriting
 from ..formats import CaptureFrame, SymbolsFrame, read_any
+from ..inside import Called, Inside
+from ..judge import Reference
 from ..measures import (ErrorRates, Magnitudes, constellation_tests, decibels, evm, octet_errors, percent, point_errors, rates_by_name,
                         residual_ratio)
 from ..program import Radio
@@ -51,9 +53,11 @@ def run(given: argparse.Namespace) -> None:
             raise InputError(f"--{name} comes once for each capture: captures {len(given.captures)}, --{name} {len(files)}")
     records: List[Dict[str, Any]] = []
     total = ErrorRates()
+    base.refuse_idle(given, "radio", given.answers, "--answers are in place of a run of it")
+    radio = None if given.answers else base.receiver_of(given.radio)
     for number, capture in enumerate(given.captures):
         files = {name: getattr(given, name)[number] if getattr(given, name) else None for name in ("answers", "sent", "octets")}
-        for record, rates in _measured(capture, given.radio, not given.untracked, **files):
+        for record, rates in _measured(capture, radio, not given.untracked, **files):
             if len(given.captures) > 1 and record["frame"] == 0:
                 print(f"{capture}:")
             _say(record)
@@ -70,37 +74,50 @@ def run(given: argparse.Namespace) -> None:
         write_json_lines(given.json, [*map(_line, records), *_sums(tests, total)], given.force)
 
 
-def _measured(capture: str, program: Optional[str], tracked: bool, answers: Optional[str], sent: Optional[str],
+def _measured(capture: str, radio: Optional[Union[Inside, Radio]], tracked: bool, answers: Optional[str], sent: Optional[str],
               octets: Optional[str]) -> Iterator[Tuple[Dict[str, Any], ErrorRates]]:
     """For each frame of a capture its measures, and its errors where it is known what was sent."""
     source = base.held(capture)
     sent_octets, sent_points = _sent(source, capture, sent, octets)
     with ExitStack() as stack:
-        detected: Iterator = iter(())
-        decoded: Iterator = iter(())
-        if answers:
-            kept_jobs, kept_frames = base.kept_answers(answers)
-            detected, decoded = iter(kept_jobs), iter(kept_frames)
-        else:
-            radio = Radio(program)
-            if sent_octets is not None:
-                decoded = stack.enter_context(radio.answers("rx", source))
-            detected = stack.enter_context(radio.answers("detect", source))
-        waiting: Dict[int, FrameAnswer] = {}
+        known: Reference = (stack.enter_context(closing(Called(radio, source, "measure"))) if isinstance(radio, Inside)
+                            else _Read(stack, radio, source, answers, sent_octets is not None))
         for number, frame in enumerate(base.frames_of(source, capture)):
-            jobs = next((record for record in detected if isinstance(record, Jobs)), None)
+            jobs = known.jobs(number, frame)
             if jobs is None or jobs.frame != number:
                 raise InputError(f"there are no answers to frame {number} of {capture}")
             rates = ErrorRates()
             if sent_points is not None:
                 rates += point_errors(_of(sent_points, number, capture), jobs)
             if sent_octets is not None:
-                answer = waiting.pop(number, None) or next((r for r in decoded if _is_of(r, number, waiting)), None)
+                answer = known.frame(number, frame)
                 if answer is not None:
                     rates += octet_errors(_of(sent_octets, number, capture), answer.octets)
             record = {"file": capture, "frame": number, "rate": frame.rate, "bandwidth": frame.rate.bandwidth, "mcs": frame.rate.mcs,
-                      "octets": frame.length, "symbols": frame.samples.shape[0]}
+                      "octets": frame.length, "symbols": frame.samples.shape[0], "unheard": base.unheard(frame)}
             yield {**record, **_magnitudes(frame, evm(frame, tracked), residual_ratio(frame, jobs)), "errors": rates}, rates
+
+
+class _Read:
+    """By the program's lines, as it writes them or kept ones."""
+
+    def __init__(self, stack: ExitStack, radio: Optional[Radio], source: Source, answers: Optional[str], decoding: bool) -> None:
+        self._detected: Iterator = iter(())
+        self._decoded: Iterator = iter(())
+        self._waiting: Dict[int, FrameAnswer] = {}
+        if answers:
+            kept_jobs, kept_frames = base.kept_answers(answers)
+            self._detected, self._decoded = iter(kept_jobs), iter(kept_frames)
+        elif radio is not None:
+            if decoding:
+                self._decoded = stack.enter_context(radio.answers("rx", source))
+            self._detected = stack.enter_context(radio.answers("detect", source))
+
+    def jobs(self, _: int, __: CaptureFrame) -> Optional[Jobs]:
+        return next((record for record in self._detected if isinstance(record, Jobs)), None)
+
+    def frame(self, number: int, _: CaptureFrame) -> Optional[FrameAnswer]:
+        return self._waiting.pop(number, None) or next((record for record in self._decoded if _is_of(record, number, self._waiting)), None)
 
 
 def _is_of(record: Any, number: int, waiting: Dict[int, FrameAnswer]) -> bool:
@@ -159,7 +176,7 @@ def _say(record: Dict[str, Any]) -> None:
     verdict = "within" if record["within"] else "above"
     print(f"frame {record['frame']}: {record['rate']}, {base.octets(record['octets'])}: "
           f"EVM {percent(record['evm'])}, {verdict} {record['limit_db']} dB; {streams('evm')}; "
-          f"residual {percent(record['residual'])}; {streams('residual')}")
+          f"residual {percent(record['residual'])}; {streams('residual')}{record['unheard']}")
 
 
 def _row(record: Dict[str, Any]) -> Dict[str, Any]:
@@ -177,7 +194,7 @@ def _row(record: Dict[str, Any]) -> Dict[str, Any]:
 
 
 def _line(record: Dict[str, Any]) -> Dict[str, Any]:
-    return {name: value for name, value in record.items() if name not in ("rate", "errors")}
+    return {name: value for name, value in record.items() if name not in ("rate", "errors", "unheard")}
 
 
 def _sums(tests, total: ErrorRates) -> Iterator[Dict[str, Any]]:

@@ -14,7 +14,7 @@ from ..packets import Mpdu, Packet, Psdu, Radiotap, packets_of, take_apart, writ
 from ..program import Radio
 from ..rates import Rate
 from ..shards import rates_of
-from .base import Command, add_tables, held, refuse_tables, write_tables
+from .base import Command, add_tables, held, refuse_idle, refuse_tables, write_tables
 
 ROLES = ("RA", "TA", "DA", "SA", "BSSID")
 COLUMNS = ("frame", "bandwidth", "mcs", "aggregated", "mpdu", "offset", "octets", "fcs", "type", "sequence", *ROLES)
@@ -92,9 +92,11 @@ def _decoded(given: argparse.Namespace) -> Iterator[Tuple[Answers, List[Rate]]]:
     with reading(source) as stream:
         is_capture = stream.read(4) == MAGIC["htcp"]
     if not is_capture and given.answers is None and _has_lines(source):
+        refuse_idle(given, "radio", True, "these are lines of it already")
         yield read_answers(source), []
         return
     rates = list(rates_of(source))
+    refuse_idle(given, "radio", given.answers, "--answers are in place of a run of it")
     if given.answers:
         with naming(given.answers):
             yield read_answers(given.answers), rates

@@ -18,7 +18,7 @@ from ..files import naming, refuse_overwriting
 from ..formats import CaptureFrame, read_htcp, write_htcp
 from ..program import Radio
 from ..sweep import Sweep, read_sweep
-from .base import Command, kept_answers, name_of, whole
+from .base import Command, kept_answers, name_of, refuse_idle, whole
 from .record import add_layout, opened
 
 KINDS = {"constellation": pictures.constellation, "evm": pictures.evm_over_subcarriers, "residual": pictures.residual_over_subcarriers,
@@ -38,8 +38,10 @@ def words(command: argparse.ArgumentParser) -> None:
 def run(given: argparse.Namespace) -> None:
     pictures.check_ending(given.output)
     refuse_overwriting(given.output, given.force)
-    if given.kind not in air_pictures.KINDS and (given.datatype, given.sample_rate, given.channels) != (None, None, None):
-        raise InputError("--datatype, --sample-rate and --channels are said of a recording")
+    if given.kind not in air_pictures.KINDS and (given.datatype, given.sample_rate, given.channels, given.variable) != (None,) * 4:
+        raise InputError("--datatype, --sample-rate, --channels and --variable are said of a recording")
+    refuse_idle(given, "radio", given.kind not in KINDS, f"{given.kind} is drawn without it")
+    refuse_idle(given, "radio", given.answers, "--answers are in place of a run of it")
     if given.answers is not None and given.kind not in KINDS:
         raise InputError("--answers are those to a capture")
     if given.frame is not None and given.kind in ("sweep", "spectrum"):

@@ -11,6 +11,7 @@ from typing import Any, Dict, Iterator, List, Optional, Tuple
 import numpy as np
 
 from ..air.legacy import LegacySpool
+from ..air.part import WHOLE, Part
 from ..air.record import COLUMNS, Line, Spool, line_of, packets_in
 from ..air.recording import ENDLESS, Recording
 from ..air.tally import Tally
@@ -24,7 +25,7 @@ from ..program import Radio
 from ..quantise import FOR_SOFT, capture
 from ..tables import Records
 from .base import Command, add_tables, level, positive_whole, refuse_tables, write_tables
-from .record import Heard, add_recording, opened, status_of, summary, text_of
+from .record import Heard, add_part, add_recording, opened, part_of, status_of, summary, text_of
 
 BATCH, OCTETS = 100, 1 << 23  # packets and octets of a capture that the program is given at once
 TRAINING_LASTS = 8e-6  # seconds of a packet by which its level is told
@@ -81,6 +82,7 @@ class Received:
 
 def words(command: argparse.ArgumentParser) -> None:
     add_recording(command)
+    add_part(command)
     command.add_argument("-o", "--output", metavar="FILE",
                          help="write the MPDUs with radiotap headers (pcap, or pcapng where it ends in .pcapng), as Wireshark reads them")
     command.add_argument("--soft", action="store_true", help="decode packets in HT-mixed format by soft decisions, and say what they cost")
@@ -108,7 +110,7 @@ def run(given: argparse.Namespace) -> int:
 
     def told(heard: Heard) -> Iterator[Packet]:
         """The records of a pcap file, while lines are printed."""
-        for packet in heard.lines(lambda recording: received(recording, radio, given.processes or 1, given.soft), lambda packet: packet.line):
+        for packet in heard.lines(lambda recording: received(recording, radio, given.processes or 1, given.soft, heard.part), lambda packet: packet.line):
             if tally is not None:
                 packet = replace(packet, verdict=_counted(tally, packet))
             print(packet, file=text, flush=True)
@@ -120,7 +122,7 @@ def run(given: argparse.Namespace) -> int:
             yield from records(packet, heard.recording, given.full_scale)
 
     with opened(given, given.recording) as recording:
-        heard = Heard(given, recording)
+        heard = Heard(given, recording, part_of(given))
         if given.output:
             write_pcap(given.output, told(heard), given.force)
         else:
@@ -151,12 +153,12 @@ def _counted(tally: Tally, packet: Received) -> Optional[str]:
     return tally.add((header["bandwidth"], header["mcs"], header["length"]), packet.octets, packet.is_good)
 
 
-def received(recording: Recording, radio: Radio, processes: int = 1, soft: bool = False) -> Iterator[Received]:
+def received(recording: Recording, radio: Radio, processes: int = 1, soft: bool = False, part: Part = WHOLE) -> Iterator[Received]:
     """The packets of a recording with their octets, by hard or soft decisions, in their order; of a pipe each as soon as it is there."""
     batch = 1 if recording.length == ENDLESS else BATCH
     waiting = _Batch(radio, soft)
     try:
-        for number, packet in enumerate(packets_in(recording, processes=processes)):
+        for number, packet in enumerate(packets_in(recording, processes=processes, part=part)):
             waiting.add(packet, line_of(packet, number, recording, None, packet.left_out))
             if len(waiting.lines) >= batch or waiting.octets > OCTETS:
                 yield from waiting.answered()

@@ -3,12 +3,14 @@
 from __future__ import annotations
 
 import argparse
+import math
 import sys
 from collections import Counter
 from contextlib import ExitStack
 from typing import Any, Callable, Dict, Iterator, List, Optional, TextIO, Union
 
 from ..air.legacy import LegacySpool
+from ..air.part import WHOLE, Part
 from ..air.placing import Look
 from ..air.record import COLUMNS, Line, Spool, annotation_of, spooled
 from ..air.receive import MISTAKE
@@ -20,7 +22,7 @@ from ..files import refuse_overwriting
 from ..program import Progress
 from ..quantise import FOR_SOFT
 from ..tables import Records
-from .base import Command, add_tables, gain, octets, positive, positive_whole, refuse_tables, whole, write_tables
+from .base import Command, add_tables, gain, not_negative, octets, positive, positive_whole, refuse_tables, whole, write_tables
 
 GENERATOR = "mizgaure record"
 
@@ -42,6 +44,18 @@ def add_recording(command: argparse.ArgumentParser) -> None:
     command.add_argument("--shift", metavar="HZ", type=hertz, help="where the packets' middle is, from the recording's middle")
     command.add_argument("--channel", metavar="N", type=whole, help="receive this channel, by the frequency that the recording says")
     command.add_argument("--processes", metavar="N", type=positive_whole, default=1, help="how many look for packets (default 1)")
+
+
+def add_part(command: argparse.ArgumentParser) -> None:
+    """The options that say which packets of a recording are received."""
+    command.add_argument("--from", metavar="SECONDS", dest="begin", type=not_negative, default=0.0, help="packets from this time on, as lines say it")
+    command.add_argument("--to", metavar="SECONDS", dest="end", type=not_negative, default=math.inf, help="packets before this time")
+    command.add_argument("--packets", metavar="N", type=positive_whole, help="no more than so many packets")
+
+
+def part_of(given: argparse.Namespace) -> Part:
+    """The part that the words say."""
+    return Part(given.begin, given.end, given.packets)
 
 
 def add_layout(command: argparse.ArgumentParser) -> None:
@@ -92,10 +106,13 @@ class Heard:
     given : Namespace
     recording : Recording
         As it was recorded.
+    part : Part
+        Of it, that is received.
     """
 
-    def __init__(self, given: argparse.Namespace, recording: Recording) -> None:
-        self.source, self.recording = recording, placed(given, recording)
+    def __init__(self, given: argparse.Namespace, recording: Recording, part: Part = WHOLE) -> None:
+        part.check(recording)
+        self.source, self.recording, self.part = recording, placed(given, recording), part
         self._may_look = given.shift is None and given.channel is None and recording.length != ENDLESS
         self._look: Optional[Look] = None
 
@@ -104,8 +121,9 @@ class Heard:
 
         Packets without a header are kept back until there is one with a header, since they may be parts of others beside the middle.
         """
-        bar = Progress(None if self.source.length == ENDLESS else self.source.length, "packets", unit=" samples")
-        self.source.watch = lambda behind: bar.add(max(0, behind - bar.done))
+        low, high = self.part.instants(self.source)
+        bar = Progress(None if high == ENDLESS else high - low, "packets", unit=" samples")
+        self.source.watch = lambda behind: bar.add(max(0, min(behind, high) - low - bar.done))
         try:
             for each in self._lines(received, line_of):
                 with bar.hidden():
@@ -124,7 +142,7 @@ class Heard:
                 yield from kept
                 kept = []
         if not found:
-            self._look = Look(self.source)
+            self._look = Look(self.source, self.part)
         shift = None if self._look is None else self._look.shift()
         if shift is None:
             yield from kept
@@ -146,8 +164,9 @@ class Heard:
 
     def nothing(self) -> str:
         """That there was no packet, and why."""
-        recording, look = self.source, self._look or Look(self.source)
-        return f"no packet was found in {recording.length} samples, {recording.seconds(recording.length):.6f} s: {look.cause()}"
+        recording, look = self.source, self._look or Look(self.source, self.part)
+        low, high = self.part.instants(recording)
+        return f"no packet was found in {high - low} samples, {recording.seconds(high - low):.6f} s: {look.cause()}"
 
 
 def text_of(*paths: Optional[str]) -> TextIO:
@@ -181,6 +200,7 @@ def summary(fates: Counter, what: str) -> str:
 
 def words(command: argparse.ArgumentParser) -> None:
     add_recording(command)
+    add_part(command)
     command.add_argument("-o", "--output", metavar="FILE", required=True, help="the capture (HTCP) to write; - is standard output")
     command.add_argument("--gain", type=gain, default=FOR_SOFT,
                          help="what to multiply with before rounding, where the noise at an antenna has mean power 1: a number, soft, which fits "
@@ -204,8 +224,8 @@ def run(given: argparse.Namespace) -> int:
         source = stack.enter_context(opened(given, given.recording))
         spool = stack.enter_context(Spool(gain=given.gain))
         legacy = stack.enter_context(LegacySpool()) if given.legacy else None
-        heard = Heard(given, source)
-        for line in heard.lines(lambda recording: spooled(recording, spool, legacy, given.processes or 1), lambda line: line):
+        heard = Heard(given, source, part_of(given))
+        for line in heard.lines(lambda recording: spooled(recording, spool, legacy, given.processes or 1, heard.part), lambda line: line):
             print(line, file=text, flush=True)
             fates[line.left_out] += 1
             if given.csv or given.json:

@@ -13,8 +13,11 @@ from ..errors import InputError
 from ..files import naming, refuse_overwriting, writing
 from ..program import Progress, Radio
 from ..sweep import read_sweep
-from .base import Command, not_negative, positive, whole
+from .base import Command, not_negative, positive, refuse_idle, whole
 from .verdict import measured
+
+
+PICTURED = 2  # frames of a capture that have pictures where nothing is said
 
 
 def words(command: argparse.ArgumentParser) -> None:
@@ -24,13 +27,13 @@ def words(command: argparse.ArgumentParser) -> None:
     command.add_argument("--sweep", metavar="FILE", action="append", default=[], help="what mizgaure sweep kept; may come again")
     command.add_argument("--frequency", metavar="HZ", type=positive, help="of the middle of the recorded band (default: as recordings say)")
     command.add_argument("--reference-ppm", metavar="PPM", type=not_negative, help="by how much the recorder's own clock may be wrong")
-    command.add_argument("--pictures", metavar="N", type=whole, default=2, help="draw the first N frames of each capture (default 2)")
+    command.add_argument("--pictures", metavar="N", type=whole, help=f"draw the first N frames of each capture (default {PICTURED})")
     command.add_argument("--title", metavar="TEXT", default="Captures, measured", help="the page's title")
 
 
 def run(given: argparse.Namespace) -> None:
     from ..report import examine, examine_recording, page
-    from ..tracing import facts
+    from ..tracing import facts, recorded
 
     refuse_overwriting(given.output, given.force)
     if "-" in given.captures:
@@ -40,19 +43,22 @@ def run(given: argparse.Namespace) -> None:
         raise InputError(f"--theirs comes once for each capture: captures {len(captures)}, --theirs {len(given.theirs)}")
     if not recordings and (given.frequency is not None or given.reference_ppm is not None):
         raise InputError("--frequency and --reference-ppm are said of recordings, and there is none")
+    refuse_idle(given, "pictures", not captures, "the frames of captures are drawn, and there is none")
+    pictured = PICTURED if given.pictures is None else given.pictures
     radio = Radio(given.radio, progress=False)
     bar = Progress(len(given.captures) + len(given.sweep), "report", unit=" files")
     examined, heard, sweeps = [], [], []
     try:
         for path, lines in zip(captures, given.theirs or [None] * len(captures)):
-            examined.append(examine(path, radio, lines, given.pictures))
+            examined.append(examine(path, radio, lines, pictured))
             bar.add(1)
         for path in recordings:
             with open_recording(path) as recording:
                 packets = list(measured(fitted(recording), shown=False))
                 if not packets:
                     raise InputError(f"{path}: no packet was found in it")
-                heard.append(examine_recording(recording, path, packets, given.frequency or recording.frequency, given.reference_ppm))
+                heard.append(examine_recording(recording, path, packets, given.frequency or recording.frequency, given.reference_ppm,
+                                               recorded(base_name(path) + META)))
             bar.add(1)
         for path in given.sweep:
             with naming(path):

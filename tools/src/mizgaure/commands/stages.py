@@ -4,11 +4,14 @@ from __future__ import annotations
 
 import argparse
 import sys
+from typing import Dict, Iterator
 
-from ..errors import InputError
-from ..files import naming, refuse_overwriting, repeatable, writing
-from ..stage_files import arrays_of, write_mat, write_stage_rows, write_text, write_words
-from .base import Command, whole, write_arrays
+from ..files import fronted, naming, refuse_overwriting, repeatable, writing
+from ..inside import unheeded
+from ..program import Radio
+from ..shards import HEAD
+from ..stage_files import Staged, arrays_of, write_mat, write_stage_rows, write_text, write_words
+from .base import Command, counted, whole, write_arrays
 
 
 def words(command: argparse.ArgumentParser) -> None:
@@ -21,29 +24,43 @@ def words(command: argparse.ArgumentParser) -> None:
 
 
 def run(given: argparse.Namespace) -> None:
-    try:
-        from ..stages import stages_of
-    except ImportError as error:
-        raise InputError(f"stages come from the proved library, which library/build makes: {error}") from error
+    from .. import stages
+
+    # The library, unless a program is named or there is none.
+    radio = Radio(given.radio) if given.radio or stages.library is None else None
+    if radio is not None and (said := unheeded(given.radio)):
+        print(f"mizgaure: {said}", file=sys.stderr)
     paths = [path for path in (given.csv, given.npz, given.mat) if path]
     for path in paths:
         refuse_overwriting(path, given.force)
     source = repeatable(given.frames)
-    with naming(given.frames):
-        if given.csv:
-            write_stage_rows(given.csv, stages_of(source, given.frame), given.force)
-        if given.npz or given.mat:
-            arrays = arrays_of(stages_of(source, given.frame))
-            for path, write in ((given.npz, write_arrays), (given.mat, write_mat)):
-                if path:
-                    with writing(path, given.force) as stream:
-                        write(stream, arrays)
-        if given.readmemh:
-            files = write_words(given.readmemh, stages_of(source, given.frame), given.force)
-            print(f"{given.readmemh}: {files} file{'s' * (files != 1)}")
-        if not paths and not given.readmemh:
-            for staged in stages_of(source, given.frame):
-                write_text(sys.stdout, staged)
+    left_out: Dict[str, None] = {}
+
+    def staged() -> Iterator[Staged]:
+        with naming(given.frames):
+            with fronted(source, HEAD) as (head, _):
+                count = 1 if given.frame is not None else int.from_bytes(head[-2:], "big")
+            for frame in counted(stages.stages_of(source, given.frame, radio), count, "stages", printing=not paths):
+                left_out.update((f"frame {frame.number}: {reason}", None) for reason in frame.left_out)
+                yield frame
+
+    if given.csv:
+        write_stage_rows(given.csv, staged(), given.force)
+    if given.npz or given.mat:
+        arrays = arrays_of(staged())
+        for path, write in ((given.npz, write_arrays), (given.mat, write_mat)):
+            if path:
+                with writing(path, given.force) as stream:
+                    write(stream, arrays)
+    if given.readmemh:
+        files = write_words(given.readmemh, staged(), given.force)
+        print(f"{given.readmemh}: {files} file{'s' * (files != 1)}")
+    if not paths and not given.readmemh:
+        for frame in staged():
+            write_text(sys.stdout, frame)
+        left_out.clear()  # the text says it
+    for reason in left_out:
+        print(f"mizgaure: left out of {reason}", file=sys.stderr)
 
 
-COMMAND = Command("stages", "write what each stage of the chain has for a frame, forwards or backwards", words, run, writes=True)
+COMMAND = Command("stages", "write what each stage of the chain has for a frame, forwards or backwards", words, run, radio=True, writes=True)

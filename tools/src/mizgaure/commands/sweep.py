@@ -10,9 +10,10 @@ from .. import pictures
 from ..detectors import SOFT, Detector
 from ..errors import InputError
 from ..files import refuse_overwriting, writing
-from ..program import Progress, Radio
+from ..program import Progress
 from ..sweep import COLUMNS, Journal, Setting, Sweep, sweep
-from .base import Command, add_part, add_setting, add_tables, add_workers, name_of, ratios, refuse_both, refuse_tables, setting_of, whole, write_tables
+from .base import (Command, add_part, add_setting, add_tables, add_workers, name_of, ratios, receiver_of, refuse_both, refuse_tables, setting_of, whole,
+                   write_tables)
 
 
 def words(command: argparse.ArgumentParser) -> None:
@@ -45,7 +46,7 @@ def run(given: argparse.Namespace) -> None:
         raise InputError("--resume goes on with a file, which --output names")
     setting = setting_of(given, given.frames)
     detectors = [Detector.of(text) for text in given.detector] + ([Detector(SOFT, SOFT)] if given.soft else [])
-    radio = Radio(given.radio) if given.scheduler is None else None
+    radio = receiver_of(given.radio) if given.scheduler is None else None
     path = None if radio is not None else given.radio
     journal = _journal(given)
     count = -(-setting.frames * len(setting.snr) // given.part[1])

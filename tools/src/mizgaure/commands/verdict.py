@@ -71,6 +71,7 @@ def measured(recording: Recording, shown: Optional[bool] = None, processes: int 
                 yield measure(recording, packet, behind)
             bar.add(max(0, packet.end - bar.done))
             behind = max(behind, packet.end)
+        bar.add(max(0, recording.length - bar.done))
     finally:
         bar.close()
 

@@ -4,14 +4,14 @@ from __future__ import annotations
 
 import argparse
 import sys
-from typing import Optional
+from typing import Optional, Tuple
 
 from ..air.recording import WRITTEN, Layout, write_recording
 from ..air.simulate import Scene, record_packets
 from ..errors import InputError
 from ..files import naming
 from ..formats import read_htsy
-from .base import Command, held, not_negative, positive, whole
+from .base import Command, counted, held, not_negative, positive, refuse_idle, whole
 
 
 def ratio(word: str) -> Optional[float]:
@@ -33,6 +33,15 @@ def parts_per_million(word: str) -> float:
         return float(word)
     except ValueError:
         raise argparse.ArgumentTypeError(f"{word} is no number") from None
+
+
+def gains(text: str) -> Tuple[Tuple[int, float], ...]:
+    """Gains of subcarriers, as -28:-3,28:3."""
+    try:
+        pairs = [word.split(":") for word in text.split(",")]
+        return tuple((int(number), float(gain)) for number, gain in pairs)
+    except ValueError:
+        raise argparse.ArgumentTypeError(f"{text} gives no gains of subcarriers, as -28:-3,28:3") from None
 
 
 def words(command: argparse.ArgumentParser) -> None:
@@ -59,7 +68,7 @@ def words(command: argparse.ArgumentParser) -> None:
     command.add_argument("--rate", type=int, choices=(20, 40, 60, 80, 100, 120, 200),
                          help="million samples a second (default: as many as packets need)")
     command.add_argument("--dc", metavar="DB", type=ratio, default=scene.level, help="add a level of so many dB beside a packet (default none)")
-    command.add_argument("--dc-drift", metavar="HZ", type=parts_per_million, default=scene.drift, help="turn it so often in a second (default 0)")
+    command.add_argument("--dc-drift", metavar="HZ", type=parts_per_million, help="turn it so often in a second (default 0)")
     command.add_argument("--neighbour", metavar="DB", type=ratio, default=scene.neighbour,
                          help="add packets of so many dB beside the others in the channel above (default none)")
     command.add_argument("--nonadjacent", action="store_true", help="put them into the channel behind that one")
@@ -69,14 +78,20 @@ def words(command: argparse.ArgumentParser) -> None:
                          help="let the carrier leak with so many dB of a packet's overall power (default none)")
     command.add_argument("--filter", metavar="DB", type=ratio, default=scene.filter,
                          help="weaken what is sent beyond the channel by so many dB (default none)")
+    command.add_argument("--gains", metavar="N:DB,..", type=gains, default=scene.gains,
+                         help="give the subcarriers of these numbers these gains, straight in between, as -28:-3,28:3 (default none)")
+    command.add_argument("--error", metavar="DB", type=ratio, default=scene.error,
+                         help="add Gaussian errors to the points, of so many dB beside them (default none)")
     command.add_argument("--lost", metavar="SAMPLES", type=whole, default=scene.lost, help="lose samples in the middle of every packet (default 0)")
     command.add_argument("--seed", type=whole, default=scene.seed, help="of the random numbers (default 1)")
 
 
 def run(given: argparse.Namespace) -> None:
+    refuse_idle(given, "dc_drift", given.dc is None, "it turns the level of --dc, and there is none")
+    given.dc_drift = given.dc_drift or 0.0
     scene = Scene(given.antennas, given.spread, given.offset, given.frequency, given.snr, given.gap, given.guard == "short",
                   given.aggregated, given.seed, given.dc, given.dc_drift, given.neighbour, given.lost,
-                  given.stbc, given.greenfield, given.nonadjacent, given.clock, given.leakage, given.filter)
+                  given.stbc, given.greenfield, given.nonadjacent, given.clock, given.leakage, given.filter, given.gains, given.error)
     scene.check()
     source = held(given.symbols)
     with naming(given.symbols):
@@ -88,7 +103,7 @@ def run(given: argparse.Namespace) -> None:
         scene.check_band(rate.bandwidth, oversampling)
     antennas = scene.antennas or max(rate.streams for rate in rates) + scene.stbc
     layout = Layout(given.datatype, 20e6 * oversampling, antennas)
-    writer = write_recording(given.output, layout, lambda writer: record_packets(read_htsy(source), scene, antennas, oversampling, writer),
+    writer = write_recording(given.output, layout, lambda writer: record_packets(counted(read_htsy(source), len(rates), "waveform"), scene, antennas, oversampling, writer),
                              raw=given.raw, frequency=scene.frequency, description=f"Packets of IEEE 802.11n in HT-{'greenfield' if scene.greenfield else 'mixed'} format",
                              force=given.force)
     clipped = f", {writer.clipped} parts clipped" if writer.clipped else ""
