@@ -94,7 +94,8 @@ Repeats (Err fault) answer = answer ≡ Err fault
 
 -- what a call that gives the next head, the end or a block of at most `most` jobs does to a reader and to its source, whose
 -- device `shown` tells
-pub record AnswersBlock {S : Type 0} (shown : S → Device ℕ) (most : ℕ) (old new : Progress) (source source' : S) (result : Result BlockItem InFault) : Type 0 where
+pub record AnswersBlock {S : Type 0} (shown : S → Device ℕ) (most : ℕ) (old new : Progress) (source source' : S)
+    (result : Result BlockItem InFault) : Type 0 where
   -- what the octets that this call took mean
   pub told : finished old ≡ None → MatchResult result
       (GivesBlock (shown_by old (shown source)) (shown_by new (shown source')))

@@ -32,7 +32,8 @@ octet_at octets rest at a is =
     ap (λ n. get_or octets n 0) here ∙ (sym (get_or-drop at octets 0 0) ∙ ap (λ (o : List ℕ). get_or o 0 0) is)
 
 -- points that were written
-point_read : (octets rest : List ℕ) (at : ℕ) (p : Point) → drop at octets ≡ point_octets p ++ rest → FitsSigned w8 p.i → FitsSigned w8 p.q → point_at octets at ≡ p
+point_read : (octets rest : List ℕ) (at : ℕ) (p : Point) → drop at octets ≡ point_octets p ++ rest → FitsSigned w8 p.i → FitsSigned w8 p.q
+    → point_at octets at ≡ p
 unfolding point_at
 point_read octets rest at p is f g =
     let next : drop (at + 1) octets ≡ cast_unsigned w8 p.q ∷ rest = behind_more octets (cast_unsigned w8 p.i ∷ []) (cast_unsigned w8 p.q ∷ rest) at 1 is refl in
@@ -45,7 +46,8 @@ points_read : (points : List Point) (octets rest : List ℕ) (at : ℕ) → drop
     → points_at (length points) octets at ≡ points
 points_read [] octets rest at is fit = refl
 points_read (p ∷ points) octets rest at is fit =
-    let first : drop at octets ≡ point_octets p ++ (flat_map point_octets points ++ rest) = is ∙ append_assoc (point_octets p) (flat_map point_octets points) rest in
+    let first : drop at octets ≡ point_octets p ++ (flat_map point_octets points ++ rest) = is
+        ∙ append_assoc (point_octets p) (flat_map point_octets points) rest in
     let next : drop (at + 2) octets ≡ flat_map point_octets points ++ rest =
     behind_more octets (point_octets p) (flat_map point_octets points ++ rest) at 2 first refl in
     ap (λ (x : Point). x ∷ points_at (length points) octets (at + 2)) (point_read octets _ at p first fit.0 fit.1)

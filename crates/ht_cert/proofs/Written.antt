@@ -1,5 +1,6 @@
 -- Records that are put piece by piece.
-use Rattle.std.proofs.Common.{◌≡◌, ℕ, suc, ◌+◌, ◌-◌, ◌<◌, ◌≤◌, List, [], ◌∷◌, ◌++◌, length, drop, map, flat_map, slice_index_or, refl, sym, ap, ◌∙◌, append_assoc, arith, Bool}
+use Rattle.std.proofs.Common.{◌≡◌, ℕ, suc, ◌+◌, ◌-◌, ◌<◌, ◌≤◌, List, [], ◌∷◌, ◌++◌, length, drop, map, flat_map, slice_index_or, refl, sym, ap, ◌∙◌,
+    append_assoc, arith, Bool}
 use Rattle.std.proofs.lemmas.List.{append-nil, drop_all, length-drop, length-map}
 use Rattle.std.proofs.Math.Seq.{drop-cons}
 use Rattle.byteorder.specs.Endian.{big_bytes}
@@ -22,7 +23,8 @@ rows_next rows k lt =
     ap (λ (r : List Row). legs_octets (legs r)) all ∙ ap (λ n. leg_octets n (leg_of (slice_index_or rows k no_row)) ++ legs_octets (legs rest)) size
 
 pub samples_next : (rows : List Row) (k : ℕ) → k < length rows
-    → flat_map sample_octets (samples (drop k rows)) ≡ sample_octets (slice_index_or rows k no_row).sample ++ flat_map sample_octets (samples (drop (k + 1) rows))
+    → flat_map sample_octets (samples (drop k rows)) ≡ sample_octets (slice_index_or rows k no_row).sample
+        ++ flat_map sample_octets (samples (drop (k + 1) rows))
 samples_next rows k lt =
     let one : suc k ≡ k + 1 = omega arith in
     ap (λ (r : List Row). flat_map sample_octets (samples r))
@@ -34,7 +36,8 @@ pub rows_done : (chunk old : List ℕ) (rows : List Row) (k : ℕ) → length ro
 rows_done chunk old rows k over eq = sym (append-nil chunk) ∙ (ap (λ (r : List Row). chunk ++ legs_octets (legs r)) (sym (drop_all k rows over)) ∙ eq)
 
 pub samples_done : (chunk old : List ℕ) (rows : List Row) (k : ℕ) → length rows ≤ k
-    → chunk ++ flat_map sample_octets (samples (drop k rows)) ≡ old ++ flat_map sample_octets (samples rows) → chunk ≡ old ++ flat_map sample_octets (samples rows)
+    → chunk ++ flat_map sample_octets (samples (drop k rows)) ≡ old ++ flat_map sample_octets (samples rows)
+        → chunk ≡ old ++ flat_map sample_octets (samples rows)
 samples_done chunk old rows k over eq =
     sym (append-nil chunk) ∙ (ap (λ (r : List Row). chunk ++ flat_map sample_octets (samples r)) (sym (drop_all k rows over)) ∙ eq)
 

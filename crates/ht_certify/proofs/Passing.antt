@@ -69,7 +69,8 @@ all_passes w x done left whole a b none all p =
     subst (λ z. PutsThrough w a b z x) (sym (append-nil done) ∙ (ap (λ z. done ++ z) (sym none) ∙ all)) p
 
 -- what waits is put at last, or a part of it
-pub put_last : (w x given : List ℕ) (a b c : Device ℕ) → PutsThrough w a b given x → Grows b c x → c.faults ≡ b.faults → IsLater b c → PutsThrough w a c given []
+pub put_last : (w x given : List ℕ) (a b c : Device ℕ) → PutsThrough w a b given x → Grows b c x → c.faults ≡ b.faults → IsLater b c
+    → PutsThrough w a c given []
 put_last w x given a b c p put steady later = record {
   front = p.front ++ x;
   put = grows-append a b c p.front x p.put put;

@@ -74,7 +74,8 @@ module _ (source sink : Device ℕ) where
         (grows_by_part-append sink sink' sink' put waiting grows (grows_by_part-none sink' waiting))))
 
     -- the sink failed at the lines that wait
-    fails_to_put : (sink'' : Device ℕ) → GrowsByPart sink' sink'' waiting → IsLater sink sink' → Rose sink' sink'' → StreamFails checking source source' sink sink'' Write
+    fails_to_put : (sink'' : Device ℕ) → GrowsByPart sink' sink'' waiting → IsLater sink sink' → Rose sink' sink''
+        → StreamFails checking source source' sink sink'' Write
     fails_to_put sink'' part later rose =
         written_in_part certificates check_text check_lines check_end_of are_lined source source' sink sink''
         (pieces source' sink'' records saw (subst (λ (xs : List ℕ). GrowsByPart sink sink'' xs) (sym lines)
@@ -159,7 +160,8 @@ module _ (source sink : Device ℕ) where
 
       own_text_is : unrefused checking all_taken ≡ check_lines_of k.records ++ check_end_of k.records
       own_text_is =
-          ap (λ (m : Meaning Record). where_faulty m.fault (check_lines_of m.items) (check_lines_of m.items ++ last_text m.fault (check_end_of m.items))) all_mean
+          ap (λ (m : Meaning Record). where_faulty m.fault (check_lines_of m.items) (check_lines_of m.items ++ last_text m.fault (check_end_of m.items)))
+              all_mean
 
       -- the lines and the last one, of which these were put
       split : (last : List ℕ) → last ≡ waiting ++ check_end_of k.records → check_lines_of k.records ++ check_end_of k.records ≡ k.put ++ last
@@ -182,7 +184,8 @@ module _ (source sink : Device ℕ) where
             (grows-append sink sink' sink'' k.put last k.grows more);
       }
 
-      pub ends_in_part : (sink'' : Device ℕ) (last : List ℕ) → last ≡ waiting ++ checked_text tally.jobs tally.right → GrowsByPart sink' sink'' last → Rose sink' sink''
+      pub ends_in_part : (sink'' : Device ℕ) (last : List ℕ) → last ≡ waiting ++ checked_text tally.jobs tally.right → GrowsByPart sink' sink'' last
+          → Rose sink' sink''
           → StreamFails checking source source' sink sink'' Write
       ends_in_part sink'' last is part rose =
           let put : GrowsByPart sink sink'' (unrefused checking all_taken) =

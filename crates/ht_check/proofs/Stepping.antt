@@ -41,7 +41,8 @@ module _ (source sink : Device ℕ) where
       omega (arith, jobs, right, yes_at_most k.records)
 
   -- the lines with that of one record more
-  pub line_added : (reader : ReaderView Record) (sink' : Device ℕ) (tally : Tally) (waiting text : List ℕ) (r : Record) (k : Checks source sink reader sink' tally waiting)
+  pub line_added : (reader : ReaderView Record) (sink' : Device ℕ) (tally : Tally) (waiting text : List ℕ) (r : Record)
+      (k : Checks source sink reader sink' tally waiting)
       → text ≡ waiting ++ check_line tally.jobs r → check_lines_of (k.records ++ r ∷ []) ≡ k.put ++ text
   line_added reader sink' tally waiting text r k is =
       line_behind k.records r

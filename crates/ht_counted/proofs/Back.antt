@@ -12,7 +12,8 @@ use Rattle.ht_fields.specs.Grammar.{Good}
 use Rattle.ht_fields.specs.Cases.{IsEnd, IsField, IsFile, Leads, octets_of_fields}
 use Rattle.ht_fields.specs.Tests.{AreBytes, differs}
 use Rattle.ht_fields.proofs.Answered.{file_items}
-use Rattle.ht_heads.specs.Starts.{StartState, Magic, Version, Count, Body, Over, good_count, good_magic, good_version, is_outside, magic_due, start_due, started_octets}
+use Rattle.ht_heads.specs.Starts.{StartState, Magic, Version, Count, Body, Over, good_count, good_magic, good_version, is_outside, magic_due, start_due,
+    started_octets}
 use Rattle.ht_heads.proofs.Counts.{bytes_back_as}
 use Rattle.ht_counted.specs.Counted.{AreCounted, CountedFormat, IsCounted, counted, counted_format, counted_octets, entries_due}
 use Rattle.ht_counted.proofs.Counting.{entry_is, over_is, written}
@@ -119,7 +120,8 @@ module _ {B V : Type 0} (h : CountedFormat B V) (octets : V → List ℕ) (Fit :
   back first body some Over next x here rest bytes good w = absurd good
 
   -- all good fields up to the end
-  wrote : FirstBack → BodyBack → NoEnd → 0 < h.limits.width → (fields : List (List ℕ)) (s t : StartState B) (items : List V) → AreBytes (octets_of_fields fields)
+  wrote : FirstBack → BodyBack → NoEnd → 0 < h.limits.width → (fields : List (List ℕ)) (s t : StartState B) (items : List V)
+      → AreBytes (octets_of_fields fields)
       → Leads (counted h) s fields items t → IsEnd (start_due (counted_format h) t) → Wrote s (octets_of_fields fields)
   wrote first body none some [] s t items bytes leads end =
       ended none s (subst (λ (z : StartState B). IsEnd (start_due (counted_format h) z)) (sym leads.1) end)

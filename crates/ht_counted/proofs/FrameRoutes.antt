@@ -121,7 +121,8 @@ module _ {B R V : Type 0} (f : CountedFormat B V) (h : Framing B R V) (is : IsFr
         takes_as a d _ _ whole (takes-append a b d (h.head rate len) (seed ∷ octets) x (takes-append b c d (seed ∷ []) octets y z))
 
   -- Behind the head of a frame something was not read.
-  module _ (left at width : ℕ) (rate : R) (len : ℕ) (source mid : Device ℕ) (wide : width ≡ h.width) (left_some : 0 < left) (some : 1 ≤ len) (few : len ≤ h.most)
+  module _ (left at width : ℕ) (rate : R) (len : ℕ) (source mid : Device ℕ) (wide : width ≡ h.width) (left_some : 0 < left) (some : 1 ≤ len)
+      (few : len ≤ h.most)
       (taken : Takes source mid (h.head rate len)) (later : IsLater source mid) where
     -- the seed
     pub seed_ends : (after : Device ℕ) (fault : InFault) → FailsField 1 BadSeed is_no_seed (at + width) mid after fault

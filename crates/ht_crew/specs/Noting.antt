@@ -29,7 +29,8 @@ module _ {F Fault : Type 0} (leads : F → F → Type 0) (shown : F → FeedView
         notes = notes-none a.failed.now (shown a.feed.now);
       }
 
-  pub leads_on-more : ((x y z : F) → leads x y → leads y z → leads x z) → (a b c : Singles F) → LeadsOn leads shown a b → LeadsOn leads shown b c → LeadsOn leads shown a c
+  pub leads_on-more : ((x y z : F) → leads x y → leads y z → leads x z) → (a b c : Singles F) → LeadsOn leads shown a b → LeadsOn leads shown b c
+      → LeadsOn leads shown a c
   leads_on-more goes_on a b c first later =
       record {
         same = first.same ∙ later.same;

@@ -33,7 +33,8 @@ goes_on a b c ab bc =
           ∙ (ap (λ (answers : List JobAnswer). answers ++ map nearest_answer (drop mid (take end b.jobs))) ab.hits
           ∙ (append_assoc (map answer_of a.hits) (map nearest_answer (drop start (take mid a.jobs))) (map nearest_answer (drop mid (take end b.jobs)))
           ∙ ap (λ (answers : List JobAnswer). map answer_of a.hits ++ answers)
-          (sym (map-append nearest_answer (drop start (take mid a.jobs)) (drop mid (take end b.jobs))) ∙ ap (λ (jobs : List JobView). map nearest_answer jobs) joined)));
+          (sym (map-append nearest_answer (drop start (take mid a.jobs)) (drop mid (take end b.jobs)))
+              ∙ ap (λ (jobs : List JobView). map nearest_answer jobs) joined)));
     }
   where
     -- a part of a list, in two parts

@@ -13,7 +13,8 @@ use Rattle.ht_round.specs.Returned.{returned_from, returned_result, returned_res
 use Rattle.ht_round.proofs.Drawn.{drawn_frames, drawn_octets}
 use Rattle.ht_round.proofs.Simulated.{simulated_results}
 use Rattle.ht_demo.specs.declared.plan.Plan.{Plan}
-use Rattle.ht_demo.specs.Demos.{CanBeSent, IsDemoLine, all_jobs, all_symbols, capture_for, code_in, data_in, line_of, matched_in, pilot_in, planned, returned_line}
+use Rattle.ht_demo.specs.Demos.{CanBeSent, IsDemoLine, all_jobs, all_symbols, capture_for, code_in, data_in, line_of, matched_in, pilot_in, planned,
+    returned_line}
 use Rattle.ht_demo.proofs.Matching.{matched-cons}
 use Rattle.ht_demo.proofs.Passing.{length-planned}
 
@@ -58,7 +59,8 @@ line-returned plan =
     ∙ ap (λ n. text plan.frames 0 0 n) (no_code 0 (planned plan))
 
 -- the results of frames that pass without noise
-results_returned : (plan : Plan) (line : List ℕ) → CanBeSent plan → (is : IsDemoLine plan line) → plan.noise ≡ 0 → results_of (capture_for plan is.sent) ≡ returned_results (planned plan)
+results_returned : (plan : Plan) (line : List ℕ) → CanBeSent plan → (is : IsDemoLine plan line) → plan.noise ≡ 0
+    → results_of (capture_for plan is.sent) ≡ returned_results (planned plan)
 results_returned plan line can is quiet =
     ap (λ (noise : ℕ). results_of (capture_file_of 1 (captures_of plan.seed noise is.sent))) quiet
     ∙ simulated_results 1 plan.seed (planned plan) is.sent (inl refl) (drawn_frames plan.seed plan.rate plan.length plan.frames can.some can.fits can.few)

@@ -74,7 +74,8 @@ pub(crate) fn supply<
     ensures issued { tally.new.issued ≡ (F.shown feed.new).count }
     ensures same { IsSameHelm helm.old helm.new }
 
-    ensures goes_on { IfOk result (λ on. IsLeading F.shown F.leads on (seen B.jobs window.old) (seen B.jobs window.new) helm.old helm.new tally.new feed.old feed.new) }
+    ensures goes_on { IfOk result (λ on. IsLeading F.shown F.leads on (seen B.jobs window.old)
+        (seen B.jobs window.new) helm.old helm.new tally.new feed.old feed.new) }
     ensures refuses { IfErr result (Refuses (A.may_lack ⊎ B.may_lack) (F.shown feed.new)) }
 {
     let mut running = running;

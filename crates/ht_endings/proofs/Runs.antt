@@ -57,14 +57,16 @@ module _ {S I H : Type 0} (f : Grammar S I) (items_as : List I → List (Item H)
 
     -- a whole file, of which this follows from the numbers of its frames and of its jobs
     pub whole : (Says : List ℕ → Type 0) (ended : Ended)
-        → ((octets : List ℕ) → ended.frames ≡ frames_of (items_as (means_in f octets).items) → ended.jobs ≡ length (jobs_of (items_as (means_in f octets).items))
+        → ((octets : List ℕ) → ended.frames ≡ frames_of (items_as (means_in f octets).items)
+            → ended.jobs ≡ length (jobs_of (items_as (means_in f octets).items))
         → Says octets)
         → BlockWhole (front source) pieces source' device device' ended → TellsWhole f pieces source source' device device' Says
     whole Says ended says w =
         record { taken = w.taken; octets = w.octets; whole = w.whole; says = says w.taken w.frames_are w.jobs_are; put = w.put }
 
     -- an input with a fault, where octets that the reader sees alike mean the same
-    pub refused : ((xs ys : List ℕ) → seen_as items_as (means_in f xs) ≡ seen_as items_as (means_in f ys) → means_in f xs ≡ means_in f ys) → (fault : FormatFault)
+    pub refused : ((xs ys : List ℕ) → seen_as items_as (means_in f xs) ≡ seen_as items_as (means_in f ys) → means_in f xs ≡ means_in f ys)
+        → (fault : FormatFault)
         → BlockRefused (front source) pieces source' device device' fault → TellsRefused f pieces source source' device device' fault
     refused same fault r =
         record {

@@ -56,7 +56,8 @@ module _ {H P : Type 0} (start : ReaderView (Item H)) (pieces : List (Headed H) 
     refused_at fault r =
         let taken = g.taken ++ r.taken in
         let all_mean : (rest : List ℕ) → start.means (taken ++ rest) ≡ record { items = items; fault = Some fault } =
-        λ rest. ap start.means (append_assoc g.taken r.taken rest) ∙ (g.means (r.taken ++ rest) ∙ (ap (before items) (r.means rest) ∙ alone items (Some fault))) in
+        λ rest. ap start.means (append_assoc g.taken r.taken rest)
+            ∙ (g.means (r.taken ++ rest) ∙ (ap (before items) (r.means rest) ∙ alone items (Some fault))) in
         let here : start.means taken ≡ record { items = items; fault = Some fault } = ap start.means (sym (append-nil taken)) ∙ all_mean [] in
         let octets = takes-append start.source mid.source source' g.taken r.taken g.octets r.octets in
         record {
@@ -71,7 +72,8 @@ module _ {H P : Type 0} (start : ReaderView (Item H)) (pieces : List (Headed H) 
     refused_early : (fault : FormatFault) → RunsOut mid source' fault → EndsRefused start all_pieces source' device device' fault
     refused_early fault r =
         let taken = g.taken ++ r.taken in
-        let here : start.means taken ≡ record { items = items; fault = Some fault } = g.means r.taken ∙ (ap (before items) r.means ∙ alone items (Some fault)) in
+        let here : start.means taken ≡ record { items = items; fault = Some fault } = g.means r.taken
+            ∙ (ap (before items) r.means ∙ alone items (Some fault)) in
         let all = takes-all start.source mid.source source' g.taken r.taken g.octets r.octets in
         let total : fault.offset ≡ start.at + length taken = let e = r.place in let h = g.place in omega (arith, e, h, length-append g.taken r.taken) in
         record {
@@ -142,7 +144,8 @@ module _ {H P : Type 0} (start : ReaderView (Item H)) (pieces : List (Headed H) 
       subst (λ (xs : List (Headed H)). GrowsByPart device device' (pieces xs)) all (part (rest ++ more))
 
   each : (left : Option (List ℕ)) (items : List (Item H)) → IfSome left (StartsWith items)
-      → ((octets : List ℕ) → StartsWith items octets → GrowsByPart device device' (all_pieces octets)) → IfSome left (λ all. GrowsByPart device device' (all_pieces all))
+      → ((octets : List ℕ) → StartsWith items octets → GrowsByPart device device' (all_pieces octets))
+          → IfSome left (λ all. GrowsByPart device device' (all_pieces all))
   each None items all part = tt
   each (Some octets) items all part = part octets all
 
@@ -152,11 +155,13 @@ module _ {H P : Type 0} (start : ReaderView (Item H)) (pieces : List (Headed H) 
       → EndsPartly start all_pieces source' device device'
   in_part mid items stop taken rest is reads jobs part =
       let s = saw_reads mid items stop is reads in
-      let puts : (octets : List ℕ) → StartsWith items octets → GrowsByPart device device' (all_pieces octets) = λ octets front. part_of octets items taken rest front jobs part in
+      let puts : (octets : List ℕ) → StartsWith items octets
+          → GrowsByPart device device' (all_pieces octets) = λ octets front. part_of octets items taken rest front jobs part in
       record { taken = s.taken; octets = s.octets; put = puts s.taken s.front; of_all = each start.source.known items s.of_all puts }
 
 -- nothing was taken and nothing put
-pub told_nothing : {H P : Type 0} (start : ReaderView (Item H)) (pieces : List ℕ → List P) (device : Device P) → EndsPartly start pieces start.source device device
+pub told_nothing : {H P : Type 0} (start : ReaderView (Item H)) (pieces : List ℕ → List P) (device : Device P)
+    → EndsPartly start pieces start.source device device
 told_nothing start pieces device =
     record {
       taken = [];

@@ -58,7 +58,8 @@ module _ {H : Type 0} where
       omega (arith, e, f, some, few)
 
 -- a block was given
-module _ {R H : Type 0} (counts : R → Counts) (desk : DeskView R H) (reader : R) (head : H) (frames : ℕ) (due : List (Due H)) (count most : ℕ) (jobs : List JobView)
+module _ {R H : Type 0} (counts : R → Counts) (desk : DeskView R H) (reader : R) (head : H) (frames : ℕ) (due : List (Due H)) (count most : ℕ)
+    (jobs : List JobView)
     (sound : IsSoundDesk counts desk) (none : desk.stop ≡ None) (counted : CountsBlock most (counts desk.reader) (counts reader) jobs)
     (fewer : frames + (counts reader).more + length jobs ≤ desk.frames + (counts desk.reader).more)
     (is : due ≡ desk.due ++ due_of head jobs ∷ []) (number : count ≡ desk.count + length jobs) where

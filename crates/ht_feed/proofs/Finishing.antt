@@ -121,7 +121,8 @@ module _ {R H P : Type 0} (means : R → List ℕ → Meaning (Item H)) (at : R 
 
     part_told : (fault : BookFault) → TellsPart first last fault → EndsPartly start pieces source' a.device b.device
     part_told fault part =
-        in_part start a.pieces head source' a.device b.device last.standing.reader part.items new.stop part.answered part.rest refl part.reads part.jobs part.part
+        in_part start a.pieces head source' a.device b.device last.standing.reader part.items new.stop part.answered part.rest refl part.reads part.jobs
+            part.part
 
     stops_as : (fault : BookFault) → TellsPart first last fault → StopsAs start pieces source' a.device b.device (fault_of fault)
     stops_as Failed part = (part_told Failed part, part.cause refl)
@@ -134,7 +135,8 @@ module _ {R H P : Type 0} (means : R → List ℕ → Meaning (Item H)) (at : R 
     -- where memory lacked before all was read, a part was put
     told_in_part : Tells first last → EndsPartly start pieces source' a.device b.device
     told_in_part tells =
-        in_part start a.pieces head source' a.device b.device last.standing.reader tells.items new.stop tells.answered (all_due new.due) refl tells.reads tells.jobs
+        in_part start a.pieces head source' a.device b.device last.standing.reader tells.items new.stop tells.answered
+            (all_due new.due) refl tells.reads tells.jobs
         (λ more. subst (λ (xs : List P). GrowsByPart a.device b.device xs) (sym (tells.first more))
         (grows_by_part-front a.device b.device tells.put (b.pieces more) (by_part a.device b.device tells.put tells.grows)))
 
@@ -166,7 +168,8 @@ module _ {R H P : Type 0} (means : R → List ℕ → Meaning (Item H)) (at : R 
         → Heard failed driven → result ≡ ended_by new.stop new.frames new.count driven → result ≢ Err Write → b.device.faults ≡ a.device.faults
     steady failed driven result h is other = steady_by failed driven h (λ e. other (is ∙ e))
 
-    heard_by : {X : Type 0} (failed : Option BookFault) (driven : Result X (DriveFault BookFault)) → Heard failed driven → a.Waits [] → (b.Waits [] → b.pieces [] ≡ [])
+    heard_by : {X : Type 0} (failed : Option BookFault) (driven : Result X (DriveFault BookFault)) → Heard failed driven → a.Waits []
+        → (b.Waits [] → b.pieces [] ≡ [])
         → Came (ended_by new.stop new.frames new.count driven)
     heard_by failed (Ok done) h rests nothing =
         ends (told_well failed h.well h.tells) (ap all_due (none_in new.due h.none_due)) rests nothing new.stop refl h.ended
@@ -180,7 +183,8 @@ module _ {R H P : Type 0} (means : R → List ℕ → Meaning (Item H)) (at : R 
     heard failed driven result h rests nothing is = subst Came (sym is) (heard_by failed driven h rests nothing)
 
 -- an answer that is a fault of this kind
-pub stops_with : (result : Result Ended RunFault) (P : Ended → Type 0) (R Q : RunFault → Type 0) → IsErr result → IsErrAnd result Q → ((e : RunFault) → Q e → R e)
+pub stops_with : (result : Result Ended RunFault) (P : Ended → Type 0) (R Q : RunFault → Type 0) → IsErr result → IsErrAnd result Q
+    → ((e : RunFault) → Q e → R e)
     → MatchResult result P R
 stops_with (Ok x) P R Q is and so = absurd (false≢true is)
 stops_with (Err e) P R Q is and so = so e and

@@ -90,12 +90,14 @@ module _ {H : Type 0} where
   reads-both old mid new items more p first later = reads_on old.stop mid.stop new.stop old.reader mid.reader new.reader items more p first later
 
   module _ {P : Type 0} where
-    pub puts-on : (old mid new : List (Headed H) → List P) (answered more : List (Headed H)) (p q : List P) → PutsFirst old mid answered p → PutsFirst mid new more q
+    pub puts-on : (old mid new : List (Headed H) → List P) (answered more : List (Headed H)) (p q : List P) → PutsFirst old mid answered p
+        → PutsFirst mid new more q
         → PutsFirst old new (answered ++ more) (p ++ q)
     puts-on old mid new answered more p q first later = λ ys.
         ap old (append_assoc answered more ys) ∙ (first (more ++ ys) ∙ (ap (λ (xs : List P). p ++ xs) (later ys) ∙ sym (append_assoc p q (new ys))))
 
-    pub part-on : (a b c : Device P) (old mid : List (Headed H) → List P) (answered more : List (Headed H)) (p : List P) → Grows a b p → PutsFirst old mid answered p
+    pub part-on : (a b c : Device P) (old mid : List (Headed H) → List P) (answered more : List (Headed H)) (p : List P) → Grows a b p
+        → PutsFirst old mid answered p
         → PutsPartOf b c mid more → PutsPartOf a c old (answered ++ more)
     part-on a b c old mid answered more p grows first part = λ ys.
         subst (λ (xs : List P). GrowsByPart a c xs) (sym (ap old (append_assoc answered more ys) ∙ first (more ++ ys)))

@@ -20,7 +20,8 @@ use Rattle.ht_fields.proofs.Routes.{Route, route_gives}
 use Rattle.ht_fields.proofs.Steps.{whole_file}
 
 -- the same fault by another name
-pub halts_as : {I : Type 0} (old : ReaderView I) (after : Device ℕ) (fault other : InFault) → other ≡ fault → StopsWithCause old after fault → StopsWithCause old after other
+pub halts_as : {I : Type 0} (old : ReaderView I) (after : Device ℕ) (fault other : InFault) → other ≡ fault → StopsWithCause old after fault
+    → StopsWithCause old after other
 halts_as old after fault other e h = subst (λ (f : InFault). StopsWithCause old after f) (sym e) h
 
 -- the field that is due did not come whole

@@ -29,7 +29,8 @@ use Rattle.ht_files.specs.HeadedFormats.{good_bandwidth, good_length, good_mcs, 
 route_bandwidth : {B I : Type 0} (h : HeadedFormat B I) (left code : ℕ) → 0 < left → code ≤ 1
     → Route (grammar_of h) (frame_due left) (Body (Mcs left code)) (code ∷ []) []
 unfolding good_bandwidth
-route_bandwidth h left code some low = route_from (grammar_of h) (frame_due left) (Body (Bandwidth left)) (Body (Mcs left code)) (code ∷ []) [] (entry_is Bandwidth left some)
+route_bandwidth h left code some low = route_from (grammar_of h) (frame_due left) (Body (Bandwidth left)) (Body (Mcs left code)) (code ∷ []) []
+    (entry_is Bandwidth left some)
     (route_field (grammar_of h) (Body (Bandwidth left)) (Body (Mcs left code)) (code ∷ []) []
     (refl, checked_good BadBandwidth (is_above 1) (good_bandwidth left) (code ∷ []) _ (not_above code 1 low) refl))
 
@@ -66,7 +67,8 @@ route_head h left rate len left_some some small =
     (refl, checked_good BadLength is_zero (good_length h left rate) (big_bytes 2 len) _ (some_length len small some) (length_is h left rate len small)))
 
 -- the head of a frame is due
-has_head : {B I : Type 0} (h : HeadedFormat B I) (left : ℕ) → 0 < left → HasHead (grammar_of h) (frame_due left) (λ code. Body (Mcs left code)) (λ rate. Body (Length left rate))
+has_head : {B I : Type 0} (h : HeadedFormat B I) (left : ℕ) → 0 < left
+    → HasHead (grammar_of h) (frame_due left) (λ code. Body (Mcs left code)) (λ rate. Body (Length left rate))
 has_head {B = B} h left some = record {
   bandwidth = subst (λ (s : HeadState B). Judges (grammar_of h) s 1 BadBandwidth (is_above 1)) (sym (entry_is Bandwidth left some))
       (judges_checked (grammar_of h) (Body (Bandwidth left)) 1 BadBandwidth (is_above 1) (good_bandwidth left) refl (omega arith) (λ e. cc, λ e. cc));
@@ -81,7 +83,8 @@ pub head_ends : {B I : Type 0} (h : HeadedFormat B I) (left at : ℕ) (source af
     → 0 < left → HeadFails at source after fault → EndsEarly (reader_in (grammar_of h) (frame_due left) at source) after fault
 head_ends h left at source after fault some fails =
     halts_ends (reader_in (grammar_of h) (frame_due left) at source) after fault
-    (head_halts (grammar_of h) (frame_due left) (λ code. Body (Mcs left code)) (λ rate. Body (Length left rate)) at source after fault (has_head h left some) fails)
+    (head_halts (grammar_of h) (frame_due left) (λ code. Body (Mcs left code)) (λ rate. Body (Length left rate)) at source after fault
+        (has_head h left some) fails)
 
 pub heads_end : {B I A : Type 0} (h : HeadedFormat B I) (left at : ℕ) (source after : Device ℕ) (result : Result A InFault) → 0 < left
     → IfErr result (HeadFails at source after) → IfErr result (EndsEarly (reader_in (grammar_of h) (frame_due left) at source) after)

@@ -50,7 +50,8 @@ module _ {B V : Type 0} (h : HeadedFormat B V) (rate : V → Rate) (size : V →
   pub same_state : (s t : HeadState B) (rest : List ℕ) → s ≡ t → Wrote_file t rest → Wrote_file s rest
   same_state = wrote_as (headed h) whole Fit Wrote_head
 
-  pub whole_frame : (left : ℕ) (octets : List ℕ) → Wrote_head (Bandwidth left) octets → FrameTail left (λ v. head_octets (rate v) (size v)) (λ v. Unit {0}) octets
+  pub whole_frame : (left : ℕ) (octets : List ℕ) → Wrote_head (Bandwidth left) octets
+      → FrameTail left (λ v. head_octets (rate v) (size v)) (λ v. Unit {0}) octets
   whole_frame left octets t = t
 
   pub frames_back : (left : ℕ) (octets : List ℕ) → Wrote_file (frame_due left) octets → EntriesTail (headed h) whole Fit Wrote_head left octets
@@ -68,7 +69,8 @@ module _ {B V : Type 0} (h : HeadedFormat B V) (rate : V → Rate) (size : V →
     t.6,
   )
 
-  mcs_back : (left code mcs : ℕ) (x rest : List ℕ) → x ≡ mcs ∷ [] → mcs ≤ 31 → Wrote_head (Length left (rate_at code mcs)) rest → Wrote_head (Mcs left code) (x ++ rest)
+  mcs_back : (left code mcs : ℕ) (x rest : List ℕ) → x ≡ mcs ∷ [] → mcs ≤ 31 → Wrote_head (Length left (rate_at code mcs)) rest
+      → Wrote_head (Mcs left code) (x ++ rest)
   mcs_back left code mcs x rest is few t =
       let index : mcs_of (rate t.0) ≡ mcs = ap mcs_of t.2 ∙ rate_at-mcs code mcs (omega (arith, few)) in (
         t.0,
@@ -110,11 +112,13 @@ module _ {B V : Type 0} (h : HeadedFormat B V) (rate : V → Rate) (size : V →
     back (Bandwidth left) next x here rest bytes good w =
         let p = passed BadBandwidth (is_above 1) (good_bandwidth left) x next here good.1 in
         let state : HeadState B = Body (Mcs left (octet_of x)) in
-        bandwidth_back left (octet_of x) x rest (single x good.0) (at_most 1 (octet_of x) p.0) (same_state state next rest (same_good state next [] here p.1).0 w)
+        bandwidth_back left (octet_of x) x rest (single x good.0) (at_most 1 (octet_of x) p.0)
+            (same_state state next rest (same_good state next [] here p.1).0 w)
     back (Mcs left code) next x here rest bytes good w =
         let p = passed BadMcs (is_above 31) (good_mcs left code) x next here good.1 in
         let state : HeadState B = Body (Length left (rate_at code (octet_of x))) in
-        mcs_back left code (octet_of x) x rest (single x good.0) (at_most 31 (octet_of x) p.0) (same_state state next rest (same_good state next [] here p.1).0 w)
+        mcs_back left code (octet_of x) x rest (single x good.0) (at_most 31 (octet_of x) p.0)
+            (same_state state next rest (same_good state next [] here p.1).0 w)
     back (Length left r) next x here rest bytes good w =
         let p = passed BadLength is_zero (good_length h left r) x next here good.1 in
         let state : HeadState B = behind_head (h.first left r (big_number 2 x)) in

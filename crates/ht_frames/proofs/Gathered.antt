@@ -123,7 +123,8 @@ module _ {W T P : Type 0} (result_of : W → T) (booked : T → List P) where
     -- with these jobs a frame is whole, and then its result stands behind the others
     module _ (a b : Device P) (whole : List W) (one : T) (before mid : List (Headed H) → List T) (hs : List (Headed H)) (last : Bool)
         (goes : (more : List (Headed H)) → before (hs ++ more) ≡ finished last one ++ mid more) (is : last ≡ true) where
-      comes : (more : List (Headed H)) → booked_behind result_of booked whole before (hs ++ more) ≡ booked_behind result_of booked whole (behind_one one mid) more
+      comes : (more : List (Headed H)) → booked_behind result_of booked whole before (hs ++ more)
+          ≡ booked_behind result_of booked whole (behind_one one mid) more
       comes more = ap (λ (rs : List T). flat_map booked (map result_of whole ++ rs)) (goes more ∙ ap (λ (b : Bool). finished b one ++ mid more) is)
 
       part_whole : PutsPartOf a b (booked_behind result_of booked whole (behind_one one mid)) []
@@ -142,7 +143,8 @@ module _ {W T P : Type 0} (result_of : W → T) (booked : T → List P) where
     -- frames under way to which these jobs are the same
     module _ (a b : Device P) (whole : List W) (before same : List (Headed H) → List T) (hs : List (Headed H))
         (alike : (more : List (Headed H)) → same (hs ++ more) ≡ before (hs ++ more)) where
-      alike_behind : (more : List (Headed H)) → booked_behind result_of booked whole same (hs ++ more) ≡ booked_behind result_of booked whole before (hs ++ more)
+      alike_behind : (more : List (Headed H)) → booked_behind result_of booked whole same (hs ++ more)
+          ≡ booked_behind result_of booked whole before (hs ++ more)
       alike_behind more = ap (λ (rs : List T). flat_map booked (map result_of whole ++ rs)) (alike more)
 
       pub books_alike : {A : Type 0} {answer : Result A BookFault} {end : List (Headed H) → List P} {lent lent' : List ℕ}

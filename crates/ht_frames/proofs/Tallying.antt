@@ -152,7 +152,8 @@ module _ {H V : Type 0} (plan : Plan H V) where
 
     -- it doesn't matter whether the frame that a block's first job begins was begun before
     pub entered : (head : H) (jobs : List JobView) (f g : SoFar H V) (more : List (Headed H)) → 1 ≤ length jobs → g ≡ frame_for plan begins head f → 1 ≤ g.left
-        → results_by plan begins result_of f (headed_due (due_of head jobs) ++ more) ≡ results_by plan begins result_of g (headed_due (due_of head jobs) ++ more)
+        → results_by plan begins result_of f (headed_due (due_of head jobs) ++ more)
+            ≡ results_by plan begins result_of g (headed_due (due_of head jobs) ++ more)
     entered head [] f g more some is left = absurd (omega (arith, some))
     entered head (job ∷ jobs) f g more some is left =
         ap (λ (z : SoFar H V). given_if fold z ++ results_by plan begins result_of z (headed_due (due_of head jobs) ++ more)) (enters head job f g is left)
@@ -178,7 +179,8 @@ module _ {H V : Type 0} (plan : Plan H V) where
         ap (λ (n : ℕ). with_kind_by plan h.job (if n == 0 then start else f)) none
         ∙ sym (ap (λ (n : ℕ). with_kind_by plan h.job (if n == 0 then start else g)) over)
 
-    pub anew : (f g : SoFar H V) (jobs : List (Headed H)) → f.left ≡ 0 → g.left ≡ 0 → results_by plan begins result_of f jobs ≡ results_by plan begins result_of g jobs
+    pub anew : (f g : SoFar H V) (jobs : List (Headed H)) → f.left ≡ 0 → g.left ≡ 0
+        → results_by plan begins result_of f jobs ≡ results_by plan begins result_of g jobs
     anew f g jobs none over = begins_alike fold f g (λ h. begins_anew h f g none over) jobs
 
 -- the numbers of jobs don't matter

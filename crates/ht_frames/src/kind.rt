@@ -33,7 +33,7 @@ pub trait Kind {
     /// The head with which a frame begins whose first job comes with this one.
     ghost begins: { Self.Head → Self.Head };
 
-    /// Such heads.
+    /// The heads with which frames begin.
     ghost fits: { Self.Head → Type 0 };
 
     /// What a whole frame comes to.

@@ -36,8 +36,8 @@ impl<K: Kind> Answer for Tally<K> {
 }
 
 impl<K: Kind> Tally<K> {
-    // The tally of no job, with room for the values of this number of jobs.
-    fn none(alloc: Global, head: &K::Head, jobs: u16) -> Result<Tally<K>, AllocError>
+    /// The tally of no job, with memory for the values of this number of jobs. The only error is lack of memory.
+    pub fn none(alloc: Global, head: &K::Head, jobs: u16) -> Result<Tally<K>, AllocError>
         ensures head { IfOk result (λ t. t.head ≡ head.now) }
         ensures none { IfOk result (λ t. IsTally K.plan head.now [] t.jobs t.data_sum t.pilot_sum t.places t.values.items) }
     {

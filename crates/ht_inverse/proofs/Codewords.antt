@@ -111,7 +111,8 @@ parsed r octets first second long other =
         let turned = mul_comm e i in
         omega (arith, h, turned, is)
 
-pub joined-is : (r : Rate) (octets : ℕ) (first second bits : List Bool) → length first ≡ steps_of r octets → length second ≡ (encoders_of r - 1) * steps_of r octets
+pub joined-is : (r : Rate) (octets : ℕ) (first second bits : List Bool) → length first ≡ steps_of r octets
+    → length second ≡ (encoders_of r - 1) * steps_of r octets
     → IsParsed r bits (untailed first) (untailed second) → bits ≡ joined_bits r octets (list_of first second)
 joined-is r octets first second bits long other is =
     parsed-bits r bits (joined_bits r octets (list_of first second)) (untailed first) (untailed second) is (parsed r octets first second long other)

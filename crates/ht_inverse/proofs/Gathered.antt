@@ -242,7 +242,8 @@ has-values {V} r erased j symbols bits values there wide all n i within below =
     let turned = mul_comm (label_bits_of r) (symbols * labels_per_symbol r) in
     record {
       bit = omega (arith, bit, wide);
-      there = subst (λ (k : ℕ). number * k + (k - 1 - (label_bits_of r - 1 - (landing_of r j i).bit)) < length values) (sym wide) (omega (arith, inside, turned, all));
+      there = subst (λ (k : ℕ). number * k + (k - 1 - (label_bits_of r - 1 - (landing_of r j i).bit)) < length values) (sym wide)
+          (omega (arith, inside, turned, all));
     }
 
 -- a frame has few labels

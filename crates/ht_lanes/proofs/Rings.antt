@@ -1,5 +1,6 @@
 -- What is due of each lane is what that lane waits for.
-use Rattle.std.proofs.Common.{◌≡◌, ◌≢◌, ℕ, zero, suc, ◌+◌, ◌<◌, ◌≤◌, List, [], ◌∷◌, ◌++◌, drop, length, get_or, slice_get, Option, Some, Bool, true, false, nat_eq, if◌then◌else◌}
+use Rattle.std.proofs.Common.{◌≡◌, ◌≢◌, ℕ, zero, suc, ◌+◌, ◌<◌, ◌≤◌, List, [], ◌∷◌, ◌++◌, drop, length, get_or, slice_get, Option, Some, Bool, true, false,
+    nat_eq, if◌then◌else◌}
 use Rattle.std.proofs.Common.{refl, ap, ◌∙◌, sym, subst, arith}
 use Rattle.std.proofs.lemmas.Bool.{false≢true}
 use Rattle.std.proofs.lemmas.Bool.Decides.{nat_tests}
@@ -9,7 +10,8 @@ use Rattle.ht_feed.specs.Items.{Numbered}
 use Rattle.ht_feed.specs.Dues.{count_in}
 use Rattle.ht_feed.specs.Feeds.{GivesBlock}
 use Rattle.ht_feed.specs.Others.{OthersStay}
-use Rattle.ht_lanes.specs.Lanes.{AreBooked, AreFresh, DueOf, HaveNone, HaveFewDue, IsBooked, IsFeed, LaneJobs, OneMoreAt, SameBooks, Within, due_at, due_of, lanes_view, most_jobs, whole_due, whole_jobs}
+use Rattle.ht_lanes.specs.Lanes.{AreBooked, AreFresh, DueOf, HaveNone, HaveFewDue, IsBooked, IsFeed, LaneJobs, OneMoreAt, SameBooks, Within, due_at, due_of,
+    lanes_view, most_jobs, whole_due, whole_jobs}
 use Rattle.ht_feed.proofs.Numbering.{are_numbered, length_numbered}
 use Rattle.ht_feed.proofs.Others.{each_of, other_number, same_number}
 use Rattle.ht_lanes.proofs.Numbering.{same_jobs}
@@ -167,7 +169,8 @@ module _ {L : Type 0} (due : L → List (List JobView)) (rests : L → Bool) whe
       pub booked_more : (after : List DueOf) → after ≡ ring ++ due_of at block ∷ [] → 1 ≤ length block.jobs → IsBooked due rests now after
       booked_more after is some =
           subst (λ (r : List DueOf). IsBooked due rests now r) (sym is) (record {
-            within = subst (λ (n : ℕ). Within n (ring ++ due_of at block ∷ [])) (sym as_many) (within-append (length lanes) ring (due_of at block) booked.within low some);
+            within = subst (λ (n : ℕ). Within n (ring ++ due_of at block ∷ [])) (sym as_many)
+                (within-append (length lanes) ring (due_of at block) booked.within low some);
             booked = λ l k few takes. more_at (nat_eq k at) l k refl (within_now k few) takes;
           })
 
@@ -189,7 +192,8 @@ module _ {L : Type 0} (due : L → List (List JobView)) (rests : L → Bool) whe
     taken_at l =
         each_of one (λ k x. k < length lanes → rests x ≡ false → due_at k ds ≡ due x) l
         (λ few takes.
-        ap (λ (bs : List (List JobView)). drop 1 bs) (sym (due_at-here d.lane d ds (same_test d.lane)) ∙ booked l d.lane low (took l takes)) ∙ sym (gone l takes))
+        ap (λ (bs : List (List JobView)). drop 1 bs) (sym (due_at-here d.lane d ds (same_test d.lane)) ∙ booked l d.lane low (took l takes))
+            ∙ sym (gone l takes))
         (λ k far few takes. sym (due_at-other k d ds (other_test d.lane k far)) ∙ booked l k few takes)
 
   -- the first block due is due no longer

@@ -1,5 +1,6 @@
 -- Several lanes at one moment: what gives blocks, and the blocks that are due, of which each is of one of them.
-use Rattle.std.specs.Prelude.{◌≡◌, ◌≢◌, ℕ, ◌++◌, ◌+◌, ◌-◌, ◌^◌, ◌<◌, ◌≤◌, List, [], ◌∷◌, map, length, slice_get, slice_index_or, Option, Some, None, Bool, true, false, nat_eq, if◌then◌else◌}
+use Rattle.std.specs.Prelude.{◌≡◌, ◌≢◌, ℕ, ◌++◌, ◌+◌, ◌-◌, ◌^◌, ◌<◌, ◌≤◌, List, [], ◌∷◌, map, length, slice_get, slice_index_or, Option, Some, None, Bool,
+    true, false, nat_eq, if◌then◌else◌}
 use Rattle.std.specs.Prelude.{Result, IfNone, IfOk, IfSome, OnErr, OnOk}
 use Rattle.std.specs.Borrow.{MutBor}
 use Rattle.ht_metric.specs.Jobs.{JobView}
@@ -186,7 +187,8 @@ module _ {L : Type 0} (due : L → List (List JobView)) (rests : L → Bool) whe
 
   -- the lane with this number waits for one block more, and no other does
   pub record OneMoreAt (a b : List L) (at : ℕ) (jobs : List JobView) : Type 0 where
-    pub here : (l : L) → (rests (slice_index_or b at l) ≡ rests (slice_index_or a at l)) × (due (slice_index_or b at l) ≡ due (slice_index_or a at l) ++ jobs ∷ [])
+    pub here : (l : L) → (rests (slice_index_or b at l) ≡ rests (slice_index_or a at l))
+        × (due (slice_index_or b at l) ≡ due (slice_index_or a at l) ++ jobs ∷ [])
     pub others : (l : L) (k : ℕ) → k ≢ at → k < length a → SameBook (slice_index_or a k l) (slice_index_or b k l)
 
 module _ {L : Type 0} (due : L → List (List JobView)) (rests over : L → Bool) where

@@ -103,7 +103,8 @@ pub record IsSound (r : Progress) : Type 0 where
 
 -- What a call comes to that reads some fields. Where the answer is Ok, the octets taken give the items that go with it. Where it
 -- is a fault, the reader gives no more, and none of them was given.
-abbrev pub ReadsItems : {A : Type 0} → Result A InFault → ReaderView (Item LegacyFrameHead) → ReaderView (Item LegacyFrameHead) → (A → List (Item LegacyFrameHead)) → Type 0
+abbrev pub ReadsItems : {A : Type 0} → Result A InFault → ReaderView (Item LegacyFrameHead) → ReaderView (Item LegacyFrameHead)
+    → (A → List (Item LegacyFrameHead)) → Type 0
 ReadsItems result old new items = MatchResult result (λ answer. Gives old new (items answer)) (Halts old new.source)
 
 -- what came when it was asked, or why it gives no more

@@ -61,7 +61,8 @@ part-octets {A} {B} octets draw xs ys left z is =
     ∙ ap (λ (ts : List A). flat_map octets (each draw ts z).value) (sym is)
 
 -- what is received of points in two parts
-pub exact-append : (ds : List ℕ) (place : ℕ) (xs ys : List Point) → exact_from ds place (xs ++ ys) ≡ exact_from ds place xs ++ exact_from ds (place + length xs) ys
+pub exact-append : (ds : List ℕ) (place : ℕ) (xs ys : List Point)
+    → exact_from ds place (xs ++ ys) ≡ exact_from ds place xs ++ exact_from ds (place + length xs) ys
 exact-append ds place [] ys = let e : place ≡ place + 0 = omega arith in ap (λ n. exact_from ds n ys) e
 exact-append ds place (x ∷ xs) ys =
     let e : place + 1 + length xs ≡ place + suc (length xs) = omega arith in

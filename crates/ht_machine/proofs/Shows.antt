@@ -45,7 +45,8 @@ result_is : (c : MachineView) → IsMachine c → (n : ℕ) (hit : Hit) → hit_
 result_is c w n hit e =
     subst (λ (o : Option Hit). IfSome o (λ x. IsIssued c.issued x.job)) e (all_hit_of (λ (x : Hit). IsIssued c.issued x.job) n c.results w.in_results)
 
-own_hit : (c : MachineView) → IsMachine c → (k : ℕ) (j : JobView) (hit : Hit) → slice_get (left c) k ≡ Some j → hit_of j.number c.booked ≡ Some hit → hit.job ≡ j
+own_hit : (c : MachineView) → IsMachine c → (k : ℕ) (j : JobView) (hit : Hit) → slice_get (left c) k ≡ Some j → hit_of j.number c.booked ≡ Some hit
+    → hit.job ≡ j
 own_hit c w k j hit at e =
     let there : slice_get c.issued (length c.emitted + k) ≡ Some j = sym (get_drop (length c.emitted) k c.issued) ∙ at in
     let number : j.number ≡ length c.emitted + k = w.numbered (length c.emitted + k) j there in

@@ -70,7 +70,8 @@ impl<R: BlockReader<Head = FrameHead> + Drop> FrameLines<R> {
         tally: &Tally<HardLabels>,
         book: &mut B,
     ) -> Result<(), BookFault>
-        requires right { IsTally label_plan tally.now.head (R.Block.jobs block.now) tally.now.jobs tally.now.data_sum tally.now.pilot_sum tally.now.places tally.now.values.items }
+        requires right { IsTally label_plan tally.now.head
+            (R.Block.jobs block.now) tally.now.jobs tally.now.data_sum tally.now.pilot_sum tally.now.places tally.now.values.items }
         requires first { slice_get (jobs_in desk.old.due) 0 ≡ Some (R.Block.jobs block.now) }
 
         ensures books { BooksFirstDue result desk.old desk.new (B.shown book.old) (B.shown book.new)

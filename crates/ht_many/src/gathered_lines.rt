@@ -87,7 +87,8 @@ impl<'f, R: Threads + Wait> GatheredLines<'f, R> {
         tally: &Tally<HardLabels>,
         book: &mut B,
     ) -> Result<(), BookFault>
-        requires right { IsTally label_plan tally.now.head (jobs_of block.now.block) tally.now.jobs tally.now.data_sum tally.now.pilot_sum tally.now.places tally.now.values.items }
+        requires right { IsTally label_plan tally.now.head
+            (jobs_of block.now.block) tally.now.jobs tally.now.data_sum tally.now.pilot_sum tally.now.places tally.now.values.items }
         requires first { slice_get (jobs_in desk.old.due) 0 ≡ Some (jobs_of block.now.block) }
 
         ensures books { BooksFirstDue result desk.old desk.new (B.shown book.old) (B.shown book.new)

@@ -108,4 +108,5 @@ module _ {H V : Type 0} (plan : Plan H V) (head : H) (indices : HasIndices plan 
       let empty : ℕ → ℕ → List V = λ i j. replicate (plan.width head) plan.none in
       ap (labels_after plan head jobs) (same_table (plan.symbols head) (plan.data_carriers head) (plan.width head) plan.none)
       ∙ (all_jobs jobs empty from end (λ i j low few. length-replicate (plan.width head) plan.none) at rising
-      ∙ table_same (blocks empty jobs) (kept_at plan head jobs) (plan.symbols head) (plan.data_carriers head) (λ i j low few. listed (job_at plan head jobs i j)))
+      ∙ table_same (blocks empty jobs) (kept_at plan head jobs) (plan.symbols head) (plan.data_carriers head)
+          (λ i j low few. listed (job_at plan head jobs i j)))

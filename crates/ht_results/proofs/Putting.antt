@@ -75,7 +75,8 @@ module _ {V : Type 0} where
       ap (λ (z : ℕ). put_values (f a ++ rest) z vs) start
       ∙ (put_within vs (f a) rest at (omega (arith, fits, size))
       ∙ (ap (λ (z : List V). z ++ rest) (ap (λ (i : ℕ). put_values (f i) at vs) (sym place) ∙ (here ∙ ap g place))
-      ∙ ap (λ (z : List V). g a ++ z) (flat_same f g (a + 1) n (λ i low high. others i (omega (arith, low)) (omega (arith, high)) (λ e. omega (arith, low, e))))))
+      ∙ ap (λ (z : List V). g a ++ z) (flat_same f g (a + 1) n
+          (λ i low high. others i (omega (arith, low)) (omega (arith, high)) (λ e. omega (arith, low, e))))))
   put_block vs f g w a (suc n) (suc k) at wide below fits here others =
       let start : suc k * w + at ≡ w + (k * w + at) = omega arith in
       let place : a + suc k ≡ a + 1 + k = omega arith in
@@ -85,7 +86,8 @@ module _ {V : Type 0} where
       ap (λ (z : ℕ). put_values (f a ++ rest) z vs) start
       ∙ (put_behind vs (f a) rest w (k * w + at) (wide a (omega arith) (omega arith))
       ∙ (ap (λ (z : List V). z ++ put_values rest (k * w + at) vs) (others a (omega arith) (omega arith) (λ e. omega (arith, e)))
-      ∙ ap (λ (z : List V). g a ++ z) (put_block vs f g w (a + 1) n k at (λ i low high. wide i (omega (arith, low)) (omega (arith, high))) (omega (arith, below)) fits later
+      ∙ ap (λ (z : List V). g a ++ z) (put_block vs f g w (a + 1) n k at (λ i low high. wide i (omega (arith, low)) (omega (arith, high)))
+          (omega (arith, below)) fits later
       (λ i low high apart. others i (omega (arith, low)) (omega (arith, high)) (λ e. apart (e ∙ place))))))
 
   -- blocks in rows
@@ -93,7 +95,8 @@ module _ {V : Type 0} where
   table f rows columns = flat_map (λ i. flat_map (f i) (range_with_len 0 columns)) (range_with_len 0 rows)
 
   -- two tables that agree
-  pub table_same : (f g : ℕ → ℕ → List V) (rows columns : ℕ) → ((i j : ℕ) → i < rows → j < columns → f i j ≡ g i j) → table f rows columns ≡ table g rows columns
+  pub table_same : (f g : ℕ → ℕ → List V) (rows columns : ℕ) → ((i j : ℕ) → i < rows → j < columns → f i j ≡ g i j)
+      → table f rows columns ≡ table g rows columns
   table_same f g rows columns same =
       flat_same (λ i. flat_map (f i) (range_with_len 0 columns)) (λ i. flat_map (g i) (range_with_len 0 columns)) 0 rows
       (λ i low high. flat_same (f i) (g i) 0 columns (λ j left right. same i j (omega (arith, high)) (omega (arith, right))))
@@ -134,4 +137,5 @@ module _ {V : Type 0} where
 
   pub same_table : (rows columns w : ℕ) (x : V) → replicate (rows * (columns * w)) x ≡ table (λ i j. replicate w x) rows columns
   same_table rows columns w x =
-      sym (repeated (columns * w) 0 rows x (λ i. flat_map (λ j. replicate w x) (range_with_len 0 columns)) (λ i. repeated w 0 columns x (λ j. replicate w x) (λ j. refl)))
+      sym (repeated (columns * w) 0 rows x (λ i. flat_map (λ j. replicate w x) (range_with_len 0 columns))
+          (λ i. repeated w 0 columns x (λ j. replicate w x) (λ j. refl)))

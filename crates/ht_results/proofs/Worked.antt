@@ -37,7 +37,8 @@ sums_of : FrameJobs → List ℕ
 sums_of f = data_sum_of f ∷ pilot_sum_of f ∷ []
 
 sums : map sums_of (whole_frames (capture_of octets).items) ≡ (14 ∷ 442 ∷ []) ∷ []
-unfolding octets sums_of meaning meaning_of judge_magic judge_version judge_count turn_due judge_bandwidth judge_mcs judge_length carriers_due judge_flag bad_flag
+unfolding octets sums_of meaning meaning_of judge_magic judge_version judge_count turn_due judge_bandwidth judge_mcs judge_length carriers_due judge_flag
+    bad_flag
     judge_triangle triangle_of head_given erase symbol_due judge_symbol next_symbol next_turn jobs_at job_at rate_at carriers_of data_carriers_of pilots_of
     streams_of symbols_of needed_bits_of data_bits_of encoders_of mcs_of bandwidth_of coded_bits_of stream_bits_of label_bits_of modulation_of pattern_of
     grid_at carrier_of carrier_at grid_of axes_of pilot_grid pilot_of polarity_at

@@ -1,4 +1,4 @@
-//! KeptPlaces in a frame.
+//! Places in a frame.
 ghost use Rattle.std.specs.Prelude.{◌≡◌, ◌+◌, ◌^◌, ◌<◌, ◌≤◌, ◌++◌, [], length, OnErr, OnOk};
 ghost use Rattle.std.specs.List.{range_with_len};
 ghost use Rattle.ht_results.specs.Plans.{put_values};
@@ -16,7 +16,7 @@ struct Stretch {
     count: usize,
 }
 
-/// KeptPlaces in a frame, one after another, on which values are to stand. They are kept as stretches of places that follow one
+/// Places in a frame, one after another, on which values are to stand. They are kept as stretches of places that follow one
 /// another, so that whoever has the frame copies the values of a stretch at once.
 #[derive(Debug, Drop)]
 pub struct KeptPlaces {

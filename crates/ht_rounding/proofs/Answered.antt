@@ -1,5 +1,6 @@
 -- A job and its lane.
-use Rattle.std.proofs.Common.{◌≡◌, ℕ, zero, suc, ◌+◌, ◌^◌, ◌<◌, ◌≤◌, [], ◌∷◌, length, take, replicate, set, slice_index, slice_index_or, arith, refl, ap, subst, sym, inl, inr, ◌∙◌}
+use Rattle.std.proofs.Common.{◌≡◌, ℕ, zero, suc, ◌+◌, ◌^◌, ◌<◌, ◌≤◌, [], ◌∷◌, length, take, replicate, set, slice_index, slice_index_or, arith, refl, ap,
+    subst, sym, inl, inr, ◌∙◌}
 use Rattle.std.proofs.lemmas.List.{get_or-set_same, get_or-set_other, length-set}
 use Rattle.std.proofs.lemmas.Bool.{cases_lt}
 use Rattle.ht_metric.specs.declared.found.Found.{Found}
@@ -27,7 +28,8 @@ third-few (suc zero) a b c d some few = absurd (omega (arith, some))
 third-few (suc (suc zero)) a b c d some few = absurd (omega (arith, some))
 third-few (suc (suc (suc n))) a b c d some few = few.1.1.0
 
-pub in-lane : (i q : Levels) (channel : Channel) (samples : Samples) (k n : ℕ) (job : JobView) (grid : List Axes) → IsJob job → job.grid ≡ grid → grid ≡ replicate n (axes_of i q)
+pub in-lane : (i q : Levels) (channel : Channel) (samples : Samples) (k n : ℕ) (job : JobView) (grid : List Axes) → IsJob job → job.grid ≡ grid
+    → grid ≡ replicate n (axes_of i q)
     → HaveSmall job.system → IsLoaded channel samples k job.system → IsInLane i q channel samples k n job
 in-lane i q channel samples k n job grid valid same full small rows =
     let few = valid.grid.few in
@@ -55,7 +57,8 @@ one-more jobs founds k job found eight lt before e is = (
     | inl earlier ↦ get_or-set_other founds k j found no_found (λ same. omega (arith, same, earlier)) ∙ before.1 j earlier
     | inr later ↦
         let same : j ≡ k = omega (arith, less, later) in
-        ap (λ (m : ℕ). slice_index_or (set founds k found) m no_found) same ∙ get_or-set_same founds k found no_found (omega (arith, before.0, lt)) ∙ e ∙ ap near is
+        ap (λ (m : ℕ). slice_index_or (set founds k found) m no_found) same ∙ get_or-set_same founds k found no_found (omega (arith, before.0, lt)) ∙ e
+            ∙ ap near is
         ∙ ap (λ (m : ℕ). near (slice_index_or jobs m no_job)) (sym same)
   ],
 )
@@ -66,13 +69,15 @@ pub plain-in-lane : (i q : Levels) (channel : Channel) (samples : Samples) (k n 
 plain-in-lane i q channel samples k n job plain loaded = in-lane i q channel samples k n job _ plain.valid plain.grid refl plain.small loaded
 
 -- what a lane has of the job with this number it has of the job
-pub plain-job : (jobs : List JobView) (k : ℕ) (job : JobView) (i q : Levels) (n : ℕ) (found : Four) → job ≡ slice_index_or jobs k no_job → job.grid ≡ replicate n (axes_of i q)
+pub plain-job : (jobs : List JobView) (k : ℕ) (job : JobView) (i q : Levels) (n : ℕ) (found : Four) → job ≡ slice_index_or jobs k no_job
+    → job.grid ≡ replicate n (axes_of i q)
     → IsJob job → HaveSmall job.system
     → (IsPlain i q n (slice_index_or jobs k no_job) → Finds (points_at n found k) (slice_index found.first.rho k) (slice_index_or jobs k no_job))
     → Finds (points_at n found k) (slice_index found.first.rho k) job
 plain-job jobs k job i q n found is grid valid small answers =
     let plain : IsPlain i q n job = record { valid = valid; grid = grid; small = small } in
-    subst (λ (j : JobView). Finds (points_at n found k) (slice_index found.first.rho k) j) (sym is) (answers (subst (λ (j : JobView). IsPlain i q n j) is plain))
+    subst (λ (j : JobView). Finds (points_at n found k) (slice_index found.first.rho k) j) (sym is)
+        (answers (subst (λ (j : JobView). IsPlain i q n j) is plain))
 
 -- one more distance
 pub one-below : (founds : List Found) (k : ℕ) (found : Found) → length founds ≡ 8 → k < 8

@@ -22,7 +22,8 @@ holds-by a (negsuc n) lt e =
     negative f = (0, 1, omega (arith, ints, f))
 
 -- an entry's part times a level
-pub holds-product : (a b p : ℕ) → a < 2 ^ 32 → b < 2 ^ 32 → p ≡ (a * b) % 2 ^ 32 → unsigned_abs (cast_signed w32 a) ≤ 2 ^ 15 → unsigned_abs (cast_signed w32 b) ≤ 7
+pub holds-product : (a b p : ℕ) → a < 2 ^ 32 → b < 2 ^ 32 → p ≡ (a * b) % 2 ^ 32 → unsigned_abs (cast_signed w32 a) ≤ 2 ^ 15
+    → unsigned_abs (cast_signed w32 b) ≤ 7
     → Holds p (cast_signed w32 a *ℤ cast_signed w32 b)
 holds-product a b p la lb ep few small =
     let r = cast_signed w32 a in
@@ -32,7 +33,8 @@ holds-product a b p la lb ep few small =
     (holds-by ((a * b) % 2 ^ 32) (r *ℤ x) (below (a * b)) (wrapping_mul-bits w32 a b la lb ∙ int_wrap_fits w32 (r *ℤ x) fits))
 
 -- the same by the entry's own parts
-by-entry : (a p : ℕ) (r x : ℤ) → cast_signed w32 a ≡ r → unsigned_abs r ≤ 2 ^ 15 → (unsigned_abs (cast_signed w32 a) ≤ 2 ^ 15 → unsigned_abs x ≤ 7 → Holds p (cast_signed w32 a *ℤ x))
+by-entry : (a p : ℕ) (r x : ℤ) → cast_signed w32 a ≡ r → unsigned_abs r ≤ 2 ^ 15
+    → (unsigned_abs (cast_signed w32 a) ≤ 2 ^ 15 → unsigned_abs x ≤ 7 → Holds p (cast_signed w32 a *ℤ x))
     → unsigned_abs x ≤ 7 → Holds p (r *ℤ x)
 by-entry a p r x e few product small =
     subst (λ (y : ℤ). Holds p (y *ℤ x)) e (product (subst (λ (y : ℤ). unsigned_abs y ≤ 2 ^ 15) (sym e) few) small)

@@ -25,7 +25,8 @@ entry : (a b : ℕ) (r t : Tap) → r ≡ t → IsShort a r.re → IsShort b r.i
 entry a b r t e p q = subst (λ (u : Tap). IsEntry a b u) e record { re = p.is; im = q.is; few_re = p.few; few_im = q.few }
 
 pub row-loaded : (lanes : RowLanes) (y : Parts) (k number : ℕ) (rows : List Row)
-    → (number ≤ length rows → (slice_index_or rows (number - 1) no_row).diagonal < 2 ^ 14 → slice_index lanes.diagonal k ≡ (slice_index_or rows (number - 1) no_row).diagonal)
+    → (number ≤ length rows → (slice_index_or rows (number - 1) no_row).diagonal < 2 ^ 14
+        → slice_index lanes.diagonal k ≡ (slice_index_or rows (number - 1) no_row).diagonal)
     → IsPartOf (EntryRe 0) number rows (slice_index lanes.next.re k) → IsPartOf (EntryIm 0) number rows (slice_index lanes.next.im k)
     → IsPartOf (EntryRe 1) number rows (slice_index lanes.second.re k) → IsPartOf (EntryIm 1) number rows (slice_index lanes.second.im k)
     → IsPartOf (EntryRe 2) number rows (slice_index lanes.third.re k) → IsPartOf (EntryIm 2) number rows (slice_index lanes.third.im k)
@@ -43,13 +44,17 @@ row-loaded lanes y k number rows d ra ia rb ib rc ic yr yi le small =
       third = λ some. entry _ _ (slice_index_or row.right 2 no_tap) _ (third_entry row.right) (rc le some) (ic le some);
     }
 
-pub rows-loaded : (a b c d : RowLanes) (u v w x : Parts) (k : ℕ) (rows : List Row) → length rows ≤ 4 → HaveSmall rows → IsRowOf a u k 1 rows → IsRowOf b v k 2 rows → IsRowOf c w k 3 rows
+pub rows-loaded : (a b c d : RowLanes) (u v w x : Parts) (k : ℕ) (rows : List Row) → length rows ≤ 4 → HaveSmall rows → IsRowOf a u k 1 rows
+    → IsRowOf b v k 2 rows → IsRowOf c w k 3 rows
     → IsRowOf d x k 4 rows → AreRowsIn (a ∷ b ∷ c ∷ d ∷ []) (u ∷ v ∷ w ∷ x ∷ []) k rows
 rows-loaded a b c d u v w x k [] few is_small p q r s = tt
 rows-loaded a b c d u v w x k (e ∷ []) few is_small p q r s = (p (omega arith) (is_small 0 (omega arith)), tt)
 rows-loaded a b c d u v w x k (e ∷ f ∷ []) few is_small p q r s = (p (omega arith) (is_small 0 (omega arith)), (q (omega arith) (is_small 1 (omega arith)), tt))
-rows-loaded a b c d u v w x k (e ∷ f ∷ g ∷ []) few is_small p q r s = (p (omega arith) (is_small 0 (omega arith)), (q (omega arith) (is_small 1 (omega arith)), (r (omega arith) (is_small 2 (omega arith)), tt)))
-rows-loaded a b c d u v w x k (e ∷ f ∷ g ∷ h ∷ []) few is_small p q r s = (p (omega arith) (is_small 0 (omega arith)), (q (omega arith) (is_small 1 (omega arith)), (r (omega arith) (is_small 2 (omega arith)), (s (omega arith) (is_small 3 (omega arith)), tt))))
+rows-loaded a b c d u v w x k (e ∷ f ∷ g ∷ []) few is_small p q r s =
+    (p (omega arith) (is_small 0 (omega arith)), (q (omega arith) (is_small 1 (omega arith)), (r (omega arith) (is_small 2 (omega arith)), tt)))
+rows-loaded a b c d u v w x k (e ∷ f ∷ g ∷ h ∷ []) few is_small p q r s =
+    (p (omega arith) (is_small 0 (omega arith)),
+        (q (omega arith) (is_small 1 (omega arith)), (r (omega arith) (is_small 2 (omega arith)), (s (omega arith) (is_small 3 (omega arith)), tt))))
 rows-loaded a b c d u v w x k (e ∷ f ∷ g ∷ h ∷ o ∷ rows) few is_small p q r s = absurd (omega (arith, few))
 
 -- a diagonal that was cut

@@ -1,5 +1,6 @@
 -- What makes a proposal certain: the room that its lane leaves.
-use Rattle.std.proofs.Common.{◌≡◌, ◌⊎◌, ℕ, zero, suc, ◌+◌, ◌-◌, ◌*◌, ◌^◌, ◌<◌, ◌≤◌, ℤ, pos, ◌+ℤ◌, ◌-ℤ◌, Bool, true, false, unsigned_abs, arith, inl, inr, ap, sym, ◌∙◌, subst, refl}
+use Rattle.std.proofs.Common.{◌≡◌, ◌⊎◌, ℕ, zero, suc, ◌+◌, ◌-◌, ◌*◌, ◌^◌, ◌<◌, ◌≤◌, ℤ, pos, ◌+ℤ◌, ◌-ℤ◌, Bool, true, false, unsigned_abs, arith, inl, inr,
+    ap, sym, ◌∙◌, subst, refl}
 use Rattle.std.specs.Prelude.{nat_lt, if◌then◌else◌}
 use Rattle.std.specs.Int.{cast_signed, w32}
 use Rattle.std.proofs.lemmas.Bool.{cases_lt}
@@ -70,7 +71,8 @@ several l t d x g h room small p eh er some z within held =
     let is : room ≡ d - g = er ∙ over-is d g (omega arith) p.left in
     let near : g < d = omega (arith, is, some) in
     let same : h ≡ g = eh ∙ lesser-is g d (omega arith) in
-    subst (λ (n : ℕ). IsSure l d x h (4 * d * n) z) (sym is) (subst (λ (n : ℕ). IsSure l d x n (4 * d * (d - g)) z) (sym same) (sure l t d x g z small p near within held))
+    subst (λ (n : ℕ). IsSure l d x h (4 * d * n) z) (sym is)
+        (subst (λ (n : ℕ). IsSure l d x n (4 * d * (d - g)) z) (sym same) (sure l t d x g z small p near within held))
 
 -- a margin is positive where there is room
 positive : (d room : ℕ) → 0 < d → 0 < room → 0 < 4 * d * room
@@ -147,7 +149,8 @@ wider e m d room p q le far ep eq =
       mul_comm e m,
     )
 
-costs-more : (a d room p q : ℕ) (w : ℤ) → w ≡ pos a → room ≤ a → room ≤ d → p ≡ unsigned_abs (w -ℤ pos d) → q ≡ unsigned_abs (w +ℤ pos d) → p * p + 4 * d * room ≤ q * q
+costs-more : (a d room p q : ℕ) (w : ℤ) → w ≡ pos a → room ≤ a → room ≤ d → p ≡ unsigned_abs (w -ℤ pos d) → q ≡ unsigned_abs (w +ℤ pos d)
+    → p * p + 4 * d * room ≤ q * q
 costs-more a d room p q w e la ld ep eq = elim (cases_lt a d) [
   | inl less ↦ wider (d - a) a d room p q la (omega (arith, less)) (omega (arith, ints, e, ep, less)) (omega (arith, ints, e, eq, less))
   | inr more ↦ wider (a - d) d d room p q ld (omega (arith, more)) (omega (arith, ints, e, ep, more)) (omega (arith, ints, e, eq, more))
@@ -183,7 +186,8 @@ pair t d x g h room lt small p sign eh er some z within held =
     }
 
 -- each is a coordinate of its lane
-pub single-is : (t d x g h room : ℕ) → d < 2 ^ 14 → Proposes 1 farthest t d x g → h ≡ lesser g 16383 → room ≡ lesser (over (2 ^ 14) g) d → IsCoordinate One t d x h room
+pub single-is : (t d x g h room : ℕ) → d < 2 ^ 14 → Proposes 1 farthest t d x g → h ≡ lesser g 16383 → room ≡ lesser (over (2 ^ 14) g) d
+    → IsCoordinate One t d x h room
 single-is t d x g h room small p eh er = record {
   small = omega (arith, eh, lesser-right g 16383);
   within = omega (arith, er, lesser-right (over (2 ^ 14) g) d);
@@ -202,7 +206,8 @@ pair-is t d x g h room lt small p sign eh er = record {
     by true = refl
     by false = refl
 
-pub several-is : (l : Levels) (t d x g h room : ℕ) → d < 2 ^ 14 → Proposes (size_of l) farthest t d x g → h ≡ lesser g d → room ≡ over d g → IsCoordinate l t d x h room
+pub several-is : (l : Levels) (t d x g h room : ℕ) → d < 2 ^ 14 → Proposes (size_of l) farthest t d x g → h ≡ lesser g d → room ≡ over d g
+    → IsCoordinate l t d x h room
 several-is l t d x g h room small p eh er = record {
   small = omega (arith, eh, lesser-right g d, small);
   within = omega (arith, er, over-is d g (omega (arith, small)) p.left);

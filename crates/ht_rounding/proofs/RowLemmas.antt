@@ -67,10 +67,12 @@ row-sure i q d spare rho x_i x_q g_i g_q room_i room_q re im c left room f m aft
       sum = omega (arith, es, ec, most, few);
     }
 
-pub sum-most : (rho c g_i g_q sum : ℕ) → rho ≤ 2 ^ 31 → g_i < 2 ^ 14 → g_q < 2 ^ 14 → c ≡ g_i * g_i + g_q * g_q → sum ≡ (rho + c) % 2 ^ 32 → sum ≤ rho + 2 * (16383 * 16383)
+pub sum-most : (rho c g_i g_q sum : ℕ) → rho ≤ 2 ^ 31 → g_i < 2 ^ 14 → g_q < 2 ^ 14 → c ≡ g_i * g_i + g_q * g_q → sum ≡ (rho + c) % 2 ^ 32
+    → sum ≤ rho + 2 * (16383 * 16383)
 sum-most rho c g_i g_q sum few si sq ec es = omega (arith, es, ec, cost-most g_i g_q si sq, few)
 
-pub spare-less : (spare g_i g_q c left m after : ℕ) → spare < 2 ^ 32 → g_i < 2 ^ 14 → g_q < 2 ^ 14 → c ≡ g_i * g_i + g_q * g_q → left ≡ over spare c → after ≡ lesser left m
+pub spare-less : (spare g_i g_q c left m after : ℕ) → spare < 2 ^ 32 → g_i < 2 ^ 14 → g_q < 2 ^ 14 → c ≡ g_i * g_i + g_q * g_q → left ≡ over spare c
+    → after ≡ lesser left m
     → after ≤ spare
 spare-less spare g_i g_q c left m after fits si sq ec el ea =
     omega (arith, ea, lesser-left left m, el, over-is spare c fits (omega (arith, ec, cost-most g_i g_q si sq)))

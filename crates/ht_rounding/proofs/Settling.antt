@@ -33,7 +33,8 @@ no-weight z = omega (arith, ints)
 left-re : (z : Complex) (rs : List Tap) (ps : List Point) → (left_by z rs ps).re ≡ z.re -ℤ weighed (weights_of_i rs) (levels_of ps)
 left-re z [] ps = no-weight z.re
 left-re z (r ∷ rs) [] = no-weight z.re
-left-re z (r ∷ rs) (p ∷ ps) = left-re (complex_minus z (entry_times r p)) rs ps ∙ plain z.re (r.re *ℤ p.i) (r.im *ℤ p.q) ((pos 0 -ℤ r.im) *ℤ p.q) _ (less_times r.im p.q)
+left-re z (r ∷ rs) (p ∷ ps) = left-re (complex_minus z (entry_times r p)) rs ps
+    ∙ plain z.re (r.re *ℤ p.i) (r.im *ℤ p.q) ((pos 0 -ℤ r.im) *ℤ p.q) _ (less_times r.im p.q)
   where
     plain : (z a b m w : ℤ) → m ≡ pos 0 -ℤ b → (z -ℤ (a -ℤ b)) -ℤ w ≡ z -ℤ (a +ℤ (m +ℤ w))
     plain z a b m w e = omega (arith, ints, e)
@@ -64,12 +65,14 @@ settled-none s p spare = record { rounds = refl; others = others_none s p (p + s
 
 chosen : (i q : Levels) (d : ℕ) (y : Sample) (taps : List Tap) (ps : List Point) (spare p x_i x_q after n : ℕ)
     → IsRowSure i q d spare p x_i x_q after n (left_by (received y) taps ps)
-    → AreChosen (real_q q d y taps) (real_i i d y taps) (levels_of ps) p n after after (cast_signed w32 x_q) (cast_signed w32 x_i) (left_by (received y) taps ps).re
+    → AreChosen (real_q q d y taps) (real_i i d y taps) (levels_of ps) p n after after (cast_signed w32 x_q) (cast_signed w32 x_i)
+        (left_by (received y) taps ps).re
 chosen i q d y taps ps spare p x_i x_q after n sure =
     let z = left_by (received y) taps ps in
     let t_q = left-im (received y) taps ps in
     let t_i = left-re (received y) taps ps in
-    let g_q : gap (target (real_q q d y taps) (levels_of ps)) d (cast_signed w32 x_q) ≡ sure.gap_q = ap (λ (t : ℤ). gap t d (cast_signed w32 x_q)) (sym t_q) ∙ sure.sure_q.gap in
+    let g_q : gap (target (real_q q d y taps) (levels_of ps)) d (cast_signed w32 x_q) ≡ sure.gap_q = ap (λ (t : ℤ). gap t d (cast_signed w32 x_q)) (sym t_q)
+        ∙ sure.sure_q.gap in
     let g_i = sure.sure_i.gap in
     record {
       sum = omega (arith, sure.sum, ap (λ (g : ℕ). g * g) g_q, ap (λ (g : ℕ). g * g) g_i);
@@ -84,7 +87,8 @@ chosen i q d y taps ps spare p x_i x_q after n sure =
     plain y o w e = omega (arith, ints, e)
 
 -- one more row in front
-pub settled-row : (i q : Levels) (d : ℕ) (y : Sample) (taps : List Tap) (ps : List Point) (rest : List Real) (spare p x_i x_q after n : ℕ) (w : Reached) (off : ℕ)
+pub settled-row : (i q : Levels) (d : ℕ) (y : Sample) (taps : List Tap) (ps : List Point) (rest : List Real) (spare p x_i x_q after n : ℕ) (w : Reached)
+    (off : ℕ)
     → IsRowSure i q d spare p x_i x_q after n (left_by (received y) taps ps)
     → Settled rest (levels_of (point_of x_i x_q ∷ ps)) n after w off
     → Settled (real_q q d y taps ∷ real_i i d y taps ∷ rest) (levels_of ps) p spare w off

@@ -45,7 +45,8 @@ pub record IsInLane (i q : Levels) (channel : Channel) (samples : Samples) (k n 
   pub valid : IsJob job
   pub streams : length job.system ≡ n
   pub grid : job.grid ≡ replicate n (axes_of i q)
-  pub rows : AreRowsIn (channel.first ∷ channel.second ∷ channel.third ∷ channel.fourth ∷ []) (samples.first ∷ samples.second ∷ samples.third ∷ samples.fourth ∷ []) k job.system
+  pub rows : AreRowsIn (channel.first ∷ channel.second ∷ channel.third ∷ channel.fourth ∷ [])
+      (samples.first ∷ samples.second ∷ samples.third ∷ samples.fourth ∷ []) k job.system
 
 -- the diagonals of all rows are below 2^14
 pub record IsSmall (channel : Channel) : Type 0 where

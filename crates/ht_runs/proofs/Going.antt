@@ -105,7 +105,8 @@ module _ {S I : Type 0} (f : Grammar S I) (lines_of : List I → List ℕ) (sour
     end_is : (octets : List ℕ) → (meaning f f.start 0 octets).items ≡ items → end_of items ≡ end_of (meaning f f.start 0 octets).items
     end_is octets is = ap end_of (sym is)
 
-    pub goes_ended : {A : Type 0} (Says : A → List ℕ → Type 0) (answer : A) → ((octets : List ℕ) → (meaning f f.start 0 octets).items ≡ items → Says answer octets)
+    pub goes_ended : {A : Type 0} (Says : A → List ℕ → Type 0) (answer : A)
+        → ((octets : List ℕ) → (meaning f f.start 0 octets).items ≡ items → Says answer octets)
         → Grows mid sink' (end_of items) → Streamed (filter f text lines) source source' sink sink' Says (Ok answer)
     goes_ended Says answer says last =
         let run = ended f text lines end_of s source source' sink mid sink' (λ octets. (meaning f f.start 0 octets).items ≡ items)

@@ -46,7 +46,8 @@ lines_before jobs at job text is so =
     ∙ ap (λ (j : JobView). j ∷ drop (at + 1) jobs) (get_or_from_slice_get jobs at job job is)))
 
 -- the line of the job before those whose lines are there
-pub line_put : (jobs : List JobView) (at left : ℕ) (job : JobView) (place : Place) (found : Found) (new behind : List ℕ) → at + 1 ≡ left → place ≡ job.place → found ≡ near job
+pub line_put : (jobs : List JobView) (at left : ℕ) (job : JobView) (place : Place) (found : Found) (new behind : List ℕ) → at + 1 ≡ left → place ≡ job.place
+    → found ≡ near job
     → Some job ≡ slice_get jobs at → behind ≡ job_lines (drop left jobs) → new ≡ line_at place found ++ behind → new ≡ job_lines (drop at jobs)
 line_put jobs at left job place found new behind next here near-is job-is so is =
     is

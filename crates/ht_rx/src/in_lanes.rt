@@ -13,7 +13,6 @@ use ht_frames::{Kind, Tally, run_gated, tally_of};
 use ht_metric::{Found, Place, Vector};
 use ht_pam::Steps;
 use ht_rate::Carrier;
-use ht_results::KeptPlaces;
 use ht_rounding::find_eight;
 use std::alloc::{AllocError, Global};
 use std::marker::Brand;
@@ -94,23 +93,6 @@ fn find_from<B: Jobs>(block: &B, at: u16, founds: &mut [Found])
     find_by::<Brand, B>(block, at, founds, Blank::new(1));
 }
 
-// The tally of no job, with room for the labels of this number of jobs.
-fn none(alloc: Global, head: &FrameHead, jobs: u16) -> Result<Tally<HardLabels>, AllocError>
-    ensures head { IfOk result (λ t. t.head ≡ head.now) }
-    ensures none { IfOk result (λ t. IsTally label_plan head.now [] t.jobs t.data_sum t.pilot_sum t.places t.values.items) }
-{
-    let room = usize::from(jobs) * usize::from(head.rate.streams());
-    Ok(Tally {
-        head: *head,
-        jobs: 0,
-        data_sum: 0,
-        pilot_sum: 0,
-        places: KeptPlaces::new(alloc),
-        values: Vec::with_capacity(alloc, room)?,
-        hard: false,
-    })
-}
-
 // Adds what was found for one more job, from this place. The only error is lack of memory.
 #[inline(always)]
 fn add_found(tally: &mut Tally<HardLabels>, place: Place, found: &Found) -> Result<(), AllocError>
@@ -153,8 +135,10 @@ fn add_eight<B: Jobs>(
     requires length { length founds.now ≡ 8 }
     requires found { AreFoundFrom (B.jobs block.now) at founds.now }
     requires below { AreBelow founds.now }
-    requires is { HasFirst (B.jobs block.now) at tally.old.head tally.old.head tally.old.jobs tally.old.data_sum tally.old.pilot_sum tally.old.places tally.old.values.items }
-    ensures { OnOk result (HasFirst (B.jobs block.now) (at + 8) tally.old.head tally.new.head tally.new.jobs tally.new.data_sum tally.new.pilot_sum tally.new.places tally.new.values.items) }
+    requires is { HasFirst (B.jobs block.now) at tally.old.head tally.old.head tally.old.jobs tally.old.data_sum tally.old.pilot_sum tally.old.places
+        tally.old.values.items }
+    ensures { OnOk result (HasFirst (B.jobs block.now)
+        (at + 8) tally.old.head tally.new.head tally.new.jobs tally.new.data_sum tally.new.pilot_sum tally.new.places tally.new.values.items) }
 {
     for k in 0..8u16 {
         let place = block.place_at(at + k);
@@ -163,7 +147,9 @@ fn add_eight<B: Jobs>(
     Ok(())
 }
 
-// What the jobs of a block come to, which are of a frame with this head. The only error is lack of memory.
+// What the jobs of a block come to, which are of a frame with this head. The only error is lack of memory. It stays out of line,
+// since what it needs would cost frames of one spatial stream, which never come here.
+#[inline(never)]
 fn tally_in_lanes<B: Jobs>(
     alloc: Global,
     head: &FrameHead,
@@ -173,7 +159,7 @@ fn tally_in_lanes<B: Jobs>(
     ensures { IfOk result (λ t. IsTally label_plan t.head (B.jobs block.now) t.jobs t.data_sum t.pilot_sum t.places t.values.items) }
 {
     let size = block.size();
-    let mut tally = none(alloc, head, size)?;
+    let mut tally = Tally::none(alloc, head, size)?;
     let mut founds = [nothing(); 8];
     for eight in 0..size / 8 {
         find_from(block, 8 * eight, &mut founds);
@@ -194,8 +180,10 @@ fn add_rest<B: Jobs>(
 ) -> Result<(), AllocError>
     requires size { size ≡ length (B.jobs block.now) }
     requires within { from ≤ size }
-    requires is { HasFirst (B.jobs block.now) from tally.old.head tally.old.head tally.old.jobs tally.old.data_sum tally.old.pilot_sum tally.old.places tally.old.values.items }
-    ensures { OnOk result (HasFirst (B.jobs block.now) size tally.old.head tally.new.head tally.new.jobs tally.new.data_sum tally.new.pilot_sum tally.new.places tally.new.values.items) }
+    requires is { HasFirst (B.jobs block.now) from tally.old.head tally.old.head tally.old.jobs tally.old.data_sum tally.old.pilot_sum tally.old.places
+        tally.old.values.items }
+    ensures { OnOk result (HasFirst (B.jobs block.now) size tally.old.head tally.new.head tally.new.jobs tally.new.data_sum tally.new.pilot_sum
+        tally.new.places tally.new.values.items) }
 {
     for at in from..size {
         let job = block.job(at);

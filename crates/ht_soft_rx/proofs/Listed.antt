@@ -102,9 +102,11 @@ module _ (head : FrameHead) (job : JobView) (m : Modulation) (is : m ≡ modulat
   unfolding label_bits_of
   width_is = ap (λ (x : Modulation). streams_of head.rate * bits_of x) (sym is)
 
-  weights_are : ws ≡ flat_map (of_stream m job (streams_of head.rate) (bits_of m) some_bits) (range_with_len 1 (streams_of head.rate)) → ws ≡ job_weights head job
+  weights_are : ws ≡ flat_map (of_stream m job (streams_of head.rate) (bits_of m) some_bits) (range_with_len 1 (streams_of head.rate))
+      → ws ≡ job_weights head job
   unfolding label_bits_of
-  weights_are all_of = all_of ∙ ap (λ (x : Modulation). flat_map (λ stream. map (weight_in x (Some job) stream) (range_with_len 0 (bits_of x))) (range_with_len 1 (streams_of head.rate))) is
+  weights_are all_of = all_of ∙ ap (λ (x : Modulation). flat_map (λ stream. map (weight_in x (Some job) stream) (range_with_len 0 (bits_of x)))
+      (range_with_len 1 (streams_of head.rate))) is
 
   pub by_bits : length ws ≡ weights_of_job head
       → ((k : ℕ) → k < weights_of_job head → get_or ws k (pos 0) ≡ weight_at m job (k / bits_of m + 1) (k % bits_of m)) → ws ≡ job_weights head job

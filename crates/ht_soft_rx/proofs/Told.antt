@@ -27,7 +27,7 @@ use Rattle.ht_results.specs.Texts.{HasFrames, frames_of, last_line, last_of}
 use Rattle.ht_results.proofs.Folded.{headed_is}
 use Rattle.ht_runs.specs.declared.faults.RunFault.{RunFault}
 use Rattle.ht_runs.specs.Streamed.{Streamed}
-use Rattle.ht_runs.specs.Formats.{filter, last_text}
+use Rattle.ht_runs.specs.Formats.{IsLined, filter, last_text}
 use Rattle.ht_text.specs.Lines.{end_text}
 use Rattle.ht_soft_rx.specs.declared.soft_result.SoftResult.{SoftResult}
 use Rattle.ht_soft_rx.specs.Jobs.{weight_fold, weight_plan, weights_come_to}
@@ -64,6 +64,10 @@ same_lines : (a b : List ℕ) → capture_of a ≡ capture_of b → soft_lines_o
 unfolding soft_lines_of soft_results_of
 same_lines a b is = ap (λ (m : Meaning CaptureItem). flat_map soft_line (map soft_result (whole_frames m.items))) is
 
+-- the text of a capture ends with the line of its fault, or with the number of its frames
+pub lines_lined : IsLined captures soft_rx_text soft_lines_of (end_as captures items_of)
+lines_lined = record { text_is = text_is; same = same_lines }
+
 -- the results of a run
 abbrev results : SoFar FrameHead ℤ → List Headed → List SoftResult
 results f jobs = results_by weight_plan with_octets weights_come_to f jobs
@@ -83,7 +87,7 @@ lines_are head f octets none =
 soft_told : (head : FrameHead) (f : SoFar FrameHead ℤ) → f.left ≡ 0
     → IsTold captures items_of head (booked_in soft_line (results f)) soft_rx_text soft_lines_of
 soft_told head f none = record {
-  lined = record { text_is = text_is; same = same_lines };
+  lined = lines_lined;
   are = λ octets. lines_are head f octets none;
 }
 

@@ -5,7 +5,8 @@ use Rattle.std.specs.Prelude.{IsTrue, ◌==◌}
 use Rattle.std.specs.List.{list_all}
 use Rattle.std.proofs.Math.Nat.{le-div_iff_mul-le, suc-mul}
 use Rattle.std.proofs.lemmas.Bool.{and_from, not_from_false, eq-eqb}
-use Rattle.std.proofs.lemmas.List.{append_assoc, map-append, reverse-append, length-append, length-drop, append-nil, get_or-drop, get_or-reverse, get_or_past, take_all}
+use Rattle.std.proofs.lemmas.List.{append_assoc, map-append, reverse-append, length-append, length-drop, append-nil, get_or-drop, get_or-reverse,
+    get_or_past, take_all}
 use Rattle.ht_rate.specs.declared.kinds.Pattern.{Pattern}
 use Rattle.ht_rate.specs.declared.kinds.Pattern.TheVariants.{Half, TwoThirds, ThreeQuarters, FiveSixths}
 use Rattle.ht_conv.specs.declared.puncture.Kept.{Kept}
@@ -90,7 +91,8 @@ explained-more pattern received u new t next start end state after kept bit next
     }
 
 -- no step is explained before the first
-pub explained-none : (pattern : Pattern) (received : List (Option Bool)) (u : List Bool) (state : ℕ) → u ≡ [] → state ≡ 0 → IsExplained pattern received u 0 0 state
+pub explained-none : (pattern : Pattern) (received : List (Option Bool)) (u : List Bool) (state : ℕ) → u ≡ [] → state ≡ 0
+    → IsExplained pattern received u 0 0 state
 explained-none pattern received u state is zero-is = record {
   count = ap length is;
   place = refl;
@@ -118,7 +120,8 @@ explained-ends pattern received u steps start state zero-is many was =
     ∙ (sym (ap (λ (n : ℕ). get_or u n false) at)
     ∙ (sym back
     ∙ (state_bit
-    ∙ (ap (λ (n : ℕ). get_or (history_of n) (5 - k) false) zero-is ∙ (sym (agree-start (5 - k) (omega arith)) ∙ get_or_past [] (5 - k) false (omega arith)))))) in
+    ∙ (ap (λ (n : ℕ). get_or (history_of n) (5 - k) false) zero-is
+        ∙ (sym (agree-start (5 - k) (omega arith)) ∙ get_or_past [] (5 - k) false (omega arith)))))) in
     and_from (length u == steps) (list_all not (drop (steps - 6) u)) (eq-eqb (length u) steps count) (all-not (drop (steps - 6) u) zeros)
 
 -- all places are explained where all steps are

@@ -68,7 +68,8 @@ pair-is pattern places at start kept pair kept-is start-is is =
     is ∙ (ap (λ (k : Kept). pair_of free_bit k places start) kept-is ∙ ap (λ (n : ℕ). pair_of free_bit (kept_of pattern at) places n) start-is)
 
 -- the places of the steps before one are received
-pub start-within : (pattern : Pattern) (steps at start count : ℕ) → at ≤ steps → start ≡ sent_count pattern at → count ≡ sent_count pattern steps → start ≤ count
+pub start-within : (pattern : Pattern) (steps at start count : ℕ) → at ≤ steps → start ≡ sent_count pattern at → count ≡ sent_count pattern steps
+    → start ≤ count
 start-within pattern steps at start count few is all =
     let whole : at + (steps - at) ≡ steps = omega arith in
     let rest : sent_count pattern at ≤ sent_count pattern steps =

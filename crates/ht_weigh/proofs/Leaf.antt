@@ -1,5 +1,6 @@
 -- The vectors with the first stream open, in closed form: the nearest levels of its halves are the nearest vectors with a bit.
-use Rattle.std.proofs.Common.{◌≡◌, ◌⊎◌, ℕ, zero, suc, ◌+◌, ◌-◌, ◌*◌, ◌^◌, ◌<◌, ◌≤◌, ℤ, pos, ◌-ℤ◌, ◌*ℤ◌, List, [], ◌∷◌, length, get_or, inl, inr, arith, refl, ap, sym, ◌∙◌, subst}
+use Rattle.std.proofs.Common.{◌≡◌, ◌⊎◌, ℕ, zero, suc, ◌+◌, ◌-◌, ◌*◌, ◌^◌, ◌<◌, ◌≤◌, ℤ, pos, ◌-ℤ◌, ◌*ℤ◌, List, [], ◌∷◌, length, get_or, inl, inr, arith,
+    refl, ap, sym, ◌∙◌, subst}
 use Rattle.std.proofs.Common.{Bool, true, false, true≢false, ◌&&◌, ◌||◌, nat_eq, nat_lt, not, None, Some, is_some}
 use Rattle.std.proofs.lemmas.Bool.{agree_below, agree_below_at, and_from, and_parts, or_cases, cases_lt, eqb-true, ltb-true}
 use Rattle.std.proofs.Common.{replicate}
@@ -58,7 +59,8 @@ ladder_from l e =
     record {
       size = elim (or_cases (nat_eq l.size 1 || nat_eq l.size 2) (nat_eq l.size 4 || nat_eq l.size 8) parts.0) [
         | inl few ↦ elim (or_cases (nat_eq l.size 1) (nat_eq l.size 2) few) [ inl a ↦ inl (eqb-true _ _ a) | inr b ↦ inr (inl (eqb-true _ _ b)) ]
-        | inr many ↦ elim (or_cases (nat_eq l.size 4) (nat_eq l.size 8) many) [ inl a ↦ inr (inr (inl (eqb-true _ _ a))) | inr b ↦ inr (inr (inr (eqb-true _ _ b))) ]
+        | inr many ↦ elim (or_cases (nat_eq l.size 4) (nat_eq l.size 8) many)
+            [ inl a ↦ inr (inr (inl (eqb-true _ _ a))) | inr b ↦ inr (inr (inr (eqb-true _ _ b))) ]
       ];
       some = ltb-true _ _ masks.0;
       within = ltb-true _ _ masks.1;

@@ -1,5 +1,6 @@
 -- The least distances at the end, and the weights that they give.
-use Rattle.std.proofs.Common.{◌≡◌, ◌⊎◌, ℕ, zero, suc, ◌+◌, ◌-◌, ◌*◌, ◌<◌, ◌≤◌, pos, neg_ℤ, List, [], ◌∷◌, length, get_or, replicate, min, inl, inr, arith, refl, ap, sym, ◌∙◌, subst}
+use Rattle.std.proofs.Common.{◌≡◌, ◌⊎◌, ℕ, zero, suc, ◌+◌, ◌-◌, ◌*◌, ◌<◌, ◌≤◌, pos, neg_ℤ, List, [], ◌∷◌, length, get_or, replicate, min, inl, inr, arith,
+    refl, ap, sym, ◌∙◌, subst}
 use Rattle.std.proofs.Common.{Bool, true, false, true≢false, ◌&&◌, nat_eq, if◌then◌else◌, Option, Some, None, is_some}
 use Rattle.std.specs.Prelude.{slice_index}
 use Rattle.std.proofs.lemmas.Bool.{and_from, and_parts, cases_Bool, cases_lt, eqb-true}
@@ -248,7 +249,8 @@ module _ (m : Modulation) (job : JobView) (is_job : IsJob job) (full : job.grid 
       near_one : (near job).distance + 65535 ≤ clip → (least_of stream e false + 65535 ≤ clip) ⊎ (least_of stream e true + 65535 ≤ clip)
       near_one enough = by in_either.value in_either.less
         where
-          by : (value : Bool) → least_of stream e value ≤ (near job).distance → (least_of stream e false + 65535 ≤ clip) ⊎ (least_of stream e true + 65535 ≤ clip)
+          by : (value : Bool) → least_of stream e value ≤ (near job).distance
+              → (least_of stream e false + 65535 ≤ clip) ⊎ (least_of stream e true + 65535 ≤ clip)
           by true le = inr (omega arith)
           by false le = inl (omega arith)
 

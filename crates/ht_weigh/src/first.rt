@@ -55,7 +55,8 @@ fn lower_half(
     requires im { unsigned_abs left.now.im ≤ 2 ^ 31 + 2 ^ 21 }
     requires small { partial + 2 ^ 65 < 2 ^ 128 }
     requires size { length leasts.old ≡ 48 }
-    ensures { IsLowered (IsOf (place_of modulation 1 bit value) (half_cost modulation bit value partial left.now.re left.now.im left.now.d)) leasts.old leasts.new }
+    ensures { IsLowered (IsOf (place_of modulation 1 bit value) (half_cost modulation bit value partial left.now.re left.now.im left.now.d)) leasts.old
+        leasts.new }
 {
     let axes = half_axes(modulation, *all, bit, value);
     let cost = nearest_cost(axes.q, left.im, left.d) + nearest_cost(axes.i, left.re, left.d);

@@ -55,7 +55,8 @@ module _ (claim : Reached) (c : Real) (cs : List Real) (s : List ℤ) (p : ℕ)
             let deep = under (x ∷ s) q todo (marks_left xs ++ more) mine on in
             subst goal (sym (cond-false far shut wide within)) (
               unbeaten claim cs (x ∷ s) q mine,
-              subst (λ (m : List Bool). IsWalk claim (below cs (x ∷ s) q ++ todo) m) (sym (append_assoc (marks_of claim.1 cs (x ∷ s) q) (marks_left xs) more)) deep,
+              subst (λ (m : List Bool). IsWalk claim (below cs (x ∷ s) q ++ todo) m)
+                  (sym (append_assoc (marks_of claim.1 cs (x ∷ s) q) (marks_left xs) more)) deep,
             )
       ]
 

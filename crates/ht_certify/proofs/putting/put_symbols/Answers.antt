@@ -14,7 +14,8 @@ loop-symbol-init g c =
       passes = (
         [],
         passes_none c.args.block.now (g.K.Sink.shown c.args.sink.now),
-        ap (λ j. flat_map record_octets (records_of_symbols c.args.recorded.now.modulation c.args.grid.now (length c.args.grid.now) j c.args.subcarriers.now c.args.samples.now)) (sym all),
+        ap (λ j. flat_map record_octets (records_of_symbols c.args.recorded.now.modulation c.args.grid.now
+            (length c.args.grid.now) j c.args.subcarriers.now c.args.samples.now)) (sym all),
       );
       left = c.requires.samples ∙ ap (λ k. k * (length c.args.subcarriers.now * length c.args.grid.now)) all;
       modulation = refl;

@@ -7,7 +7,8 @@ use Rattle.ht_drive.proofs.lead.lead.Goals as goal
 use Rattle.ht_drive.proofs.lead.lead.Goals.{In-Ok}
 
 -- the window was filled
-supplied : (g : _) (c : In-Ok g) → IsLeading g.F.BlockFeed.shown g.F.BlockFeed.leads c.in-Ok.on (seen g.B.Jobs.jobs c.args.window.now) (seen g.B.Jobs.jobs c.supply.new.window)
+supplied : (g : _) (c : In-Ok g) → IsLeading g.F.BlockFeed.shown g.F.BlockFeed.leads c.in-Ok.on (seen g.B.Jobs.jobs c.args.window.now)
+    (seen g.B.Jobs.jobs c.supply.new.window)
     c.args.helm.now c.supply.new.helm c.supply.new.tally c.args.feed.now c.supply.new.feed
 supplied g c = goes_further _ _ g.met.F.BlockFeed.goes_on c.loop.invariant c.in-Ok.ensures.goes_on
 

@@ -37,7 +37,8 @@ holds g c =
     let size = c.if-room-size.true in
     let left = c.room.ensures in
     let room : count_in (due_in g.B.Jobs.jobs before.window.slots) + length jobs ≤ before.window.capacity = omega (arith, few, size, left) in
-    holds_more c.args.size (seen g.B.Jobs.jobs before.window) (seen g.B.Jobs.jobs c.issue.new.window) (g.F.BlockFeed.shown before.feed) (g.F.BlockFeed.shown c.next.new.self) jobs
+    holds_more c.args.size (seen g.B.Jobs.jobs before.window) (seen g.B.Jobs.jobs c.issue.new.window) (g.F.BlockFeed.shown before.feed)
+        (g.F.BlockFeed.shown c.next.new.self) jobs
     before.invariant.stands.holds (gives g c) room c.issue.ensures.window
 
 -- which has the same room
@@ -53,7 +54,8 @@ pub returns-then-is_err-clause-steps : goal.returns-then-is_err-clause-steps
 returns-then-is_err-clause-steps g c =
     let so_far = c.loop-running.invariant in
     let here = (goal.at.returns-then-is_err-clause-steps g c).After-issue in
-    steps_held g.F.BlockFeed.shown g.F.BlockFeed.leads (seen g.B.Jobs.jobs c.args.window.now) (seen g.B.Jobs.jobs c.issue.new.window) c.args.feed.now c.next.new.self
+    steps_held g.F.BlockFeed.shown g.F.BlockFeed.leads (seen g.B.Jobs.jobs c.args.window.now)
+        (seen g.B.Jobs.jobs c.issue.new.window) c.args.feed.now c.next.new.self
     (g.met.F.BlockFeed.goes_on c.args.feed.now c.loop-running.feed c.next.new.self so_far.leads c.next.ensures.leads)
     (capacity g here) (holds g here) (λ known start. (turn g here known start).in_turn)
 
@@ -73,7 +75,8 @@ loop-running-preserved-else-is_err g c =
         holds = holds g here;
         tallies = on_ok c.issue.result (Tallies c.issue.new.tally c.issue.new.helm) good c.issue.ensures.tallies;
         issued = omega (arith, c.issue.ensures.issued, so_far.stands.issued, given.count);
-        under_way = goes_on_more c.args.size before.running (shown before.feed) (shown c.next.new.self) jobs c.loop-running-test.true so_far.stands.under_way given;
+        under_way = goes_on_more c.args.size before.running (shown before.feed)
+            (shown c.next.new.self) jobs c.loop-running-test.true so_far.stands.under_way given;
       };
       leads = g.met.F.BlockFeed.goes_on c.args.feed.now c.loop-running.feed c.next.new.self so_far.leads c.next.ensures.leads;
       capacity = capacity g here;
@@ -122,4 +125,6 @@ returns-in-Err-clause-steps g c =
 pub returns-clause-steps : goal.returns-clause-steps
 returns-clause-steps g c =
     let so_far = c.loop-running.invariant in
-    steps_held g.F.BlockFeed.shown g.F.BlockFeed.leads (seen g.B.Jobs.jobs c.args.window.now) (seen g.B.Jobs.jobs c.loop-running.window) c.args.feed.now c.loop-running.feed so_far.leads so_far.capacity so_far.stands.holds (λ known start. (so_far.turn known start).in_turn)
+    steps_held g.F.BlockFeed.shown g.F.BlockFeed.leads (seen g.B.Jobs.jobs c.args.window.now)
+        (seen g.B.Jobs.jobs c.loop-running.window) c.args.feed.now c.loop-running.feed so_far.leads so_far.capacity so_far.stands.holds
+            (λ known start. (so_far.turn known start).in_turn)

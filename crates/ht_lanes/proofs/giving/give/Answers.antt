@@ -5,7 +5,8 @@ use Rattle.ht_lanes.proofs.Rings.{room_for}
 use Rattle.ht_lanes.proofs.giving.give.Goals as goal
 
 pub make_room-requires : goal.make_room-requires
-make_room-requires g c = room_for (length c.args.lanes.now) c.args.due.now.items c.args.most c.requires.asked.booked.within c.requires.asked.asks.some c.requires.asked.few_due
+make_room-requires g c = room_for (length c.args.lanes.now) c.args.due.now.items c.args.most c.requires.asked.booked.within c.requires.asked.asks.some
+    c.requires.asked.few_due
 
 pub returns-clause-leads : goal.returns-clause-leads
 returns-clause-leads g c = λ sinks.

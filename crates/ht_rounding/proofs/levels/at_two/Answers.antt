@@ -5,7 +5,8 @@ use Rattle.ht_rounding.proofs.Folding.{unfolds}
 use Rattle.ht_rounding.proofs.levels.at_two.Goals as goal
 
 pub returns-clause-sign : goal.returns-clause-sign
-returns-clause-sign c k lt = c.unfolded.ensures k lt ∙ ap (λ (n : ℕ). turned (slice_index c.args.target k) ((1 + n) % 2 ^ 32)) (c.at_one-inner.ensures.zero k lt)
+returns-clause-sign c k lt = c.unfolded.ensures k lt
+    ∙ ap (λ (n : ℕ). turned (slice_index c.args.target k) ((1 + n) % 2 ^ 32)) (c.at_one-inner.ensures.zero k lt)
 
 pub returns-clause-proposed : goal.returns-clause-proposed
 returns-clause-proposed c k lt bound le =

@@ -4,4 +4,5 @@ use Rattle.ht_rx.proofs.in_lanes.add_eight.Given as goal
 
 -- the jobs so far were added
 abbrev pub invariant-loop-k : goal.invariant-loop-k
-invariant-loop-k g l = HasFirst (g.B.Jobs.jobs l.fn.block) (l.fn.at + l.k) l.fn.tally.head l.tally.head l.tally.jobs l.tally.data_sum l.tally.pilot_sum l.tally.places l.tally.values.items
+invariant-loop-k g l = HasFirst (g.B.Jobs.jobs l.fn.block)
+    (l.fn.at + l.k) l.fn.tally.head l.tally.head l.tally.jobs l.tally.data_sum l.tally.pilot_sum l.tally.places l.tally.values.items

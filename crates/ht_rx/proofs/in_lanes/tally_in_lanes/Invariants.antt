@@ -6,5 +6,6 @@ use Rattle.ht_rx.proofs.in_lanes.tally_in_lanes.Given as goal
 abbrev pub invariant-loop-eight : goal.invariant-loop-eight
 invariant-loop-eight g l = record {
   founds : length l.founds ≡ 8;
-  first : HasFirst (g.B.Jobs.jobs l.fn.block) (8 * l.eight) l.fn.head l.tally.head l.tally.jobs l.tally.data_sum l.tally.pilot_sum l.tally.places l.tally.values.items;
+  first : HasFirst (g.B.Jobs.jobs l.fn.block)
+      (8 * l.eight) l.fn.head l.tally.head l.tally.jobs l.tally.data_sum l.tally.pilot_sum l.tally.places l.tally.values.items;
 }

@@ -20,7 +20,8 @@ returns c =
     subst (λ (e : ℕ). AreSoftCodewords r octets e weights first second) c.in_ok-table.ensures.erased
     (subst (λ (s : Rate). AreSoftCodewords s octets c.in_ok-table.table.first.erased weights first second) c.in_ok-table.ensures.rate
     (record {
-      first_is = c.in_ok-first.ensures.value ∙ ap (soft_codeword_of c.in_ok-table.table.first.rate octets c.in_ok-table.table.first.erased weights) c.in_ok-table.table.encoder;
+      first_is = c.in_ok-first.ensures.value ∙ ap
+          (soft_codeword_of c.in_ok-table.table.first.rate octets c.in_ok-table.table.first.erased weights) c.in_ok-table.table.encoder;
       second_is = c.in_ok-second.ensures.value;
     })) in
     let made : Outcome → ℕ → SoftDecoded = λ o n. record { outcome = o; cost = n } in

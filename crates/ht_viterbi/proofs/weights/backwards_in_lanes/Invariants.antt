@@ -9,7 +9,8 @@ invariant-loop-at l = record {
   within : l.at ≤ l.steps;
   count : length l.choices ≡ l.steps;
   start : l.start ≡ sent_count l.pattern l.at;
-  costs : (k : ℕ) → k < 64 → slice_index l.costs k + l.fallen ≡ least_from (steps_from l.pattern (map (costs_of weight_cost) l.weights) l.at (l.steps - l.at)) k;
+  costs : (k : ℕ) → k < 64 → slice_index l.costs k + l.fallen
+      ≡ least_from (steps_from l.pattern (map (costs_of weight_cost) l.weights) l.at (l.steps - l.at)) k;
   choices : AreChoices (steps_from l.pattern (map (costs_of weight_cost) l.weights) l.at (l.steps - l.at)) (drop l.at l.choices);
   low : slice_index l.costs 0 < 2 ^ 30;
   bound : slice_index l.costs 0 + l.fallen ≤ 2 ^ 17 * (l.steps - l.at);

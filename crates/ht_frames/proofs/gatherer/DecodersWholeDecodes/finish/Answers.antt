@@ -14,10 +14,13 @@ returns g c =
     let queue = c.args.queue.now.items in
     let there = c.decode.new.queue.items in
     let left = c.leave-frame.ensures in
-    let goes = stands_behind g.U.Whole.WholeFrame.result_of b.booked queue there c.leave-frame.result one mid after left.value c.in_ok-decode.ensures left.kept in
+    let goes = stands_behind g.U.Whole.WholeFrame.result_of b.booked queue there c.leave-frame.result one mid after left.value c.in_ok-decode.ensures
+        left.kept in
     record {
-      put = puts_first g.U.Whole.WholeFrame.result_of b.booked a now queue there (behind_one one mid) after [] goes c.book_frames.result c.book_frames.new.queue.items
+      put = puts_first g.U.Whole.WholeFrame.result_of b.booked a now queue there
+          (behind_one one mid) after [] goes c.book_frames.result c.book_frames.new.queue.items
           c.book_frames.ensures.put;
-      part = part_first g.U.Whole.WholeFrame.result_of b.booked a now queue there (behind_one one mid) after [] goes c.book_frames.result c.book_frames.ensures.part;
+      part = part_first g.U.Whole.WholeFrame.result_of b.booked a now queue there
+          (behind_one one mid) after [] goes c.book_frames.result c.book_frames.ensures.part;
       faults = c.book_frames.ensures.faults;
     }

@@ -27,7 +27,8 @@ returns-then-self-eq0 c =
     (λ bits. bits.items ≡ map (known_at (λ label place. decision_in place (slice_index_or labels label 0)) s.rate s.erased s.encoder)
     (range_with_len 0 c.coded_bits-count.result))
     (λ bits. map known_of bits.items ≡ received_of s.rate c.args.frame.now.octets s.erased labels s.encoder)
-    (λ bits are. decisions-are s.rate c.args.frame.now.octets s.erased s.encoder c.coded_bits-count.result labels bits.items c.coded_bits-count.ensures.value are)
+    (λ bits are. decisions-are s.rate c.args.frame.now.octets s.erased s.encoder c.coded_bits-count.result labels bits.items
+        c.coded_bits-count.ensures.value are)
     c.received.ensures
 
 pub returns-else-self-eq0 : goal.returns-else-self-eq0
@@ -38,5 +39,6 @@ returns-else-self-eq0 c =
     (λ bits. bits.items ≡ map (known_at (λ label place. decision_in place (slice_index_or labels label 0)) s.rate s.erased s.encoder)
     (range_with_len 0 c.coded_bits-count.result))
     (λ bits. map known_of bits.items ≡ received_of s.rate c.args.frame.now.octets s.erased labels s.encoder)
-    (λ bits are. decisions-are s.rate c.args.frame.now.octets s.erased s.encoder c.coded_bits-count.result labels bits.items c.coded_bits-count.ensures.value are)
+    (λ bits are. decisions-are s.rate c.args.frame.now.octets s.erased s.encoder c.coded_bits-count.result labels bits.items
+        c.coded_bits-count.ensures.value are)
     c.received-else-self-eq0.ensures

@@ -6,7 +6,8 @@ use Rattle.ht_inverse.proofs.share.Share.push_symbol.Given as goal
 
 abbrev pub invariant-loop-place : goal.invariant-loop-place
 invariant-loop-place g l = record {
-  items : l.bits.items ≡ map (known_at (g.L.LabelValues.known l.labels) l.self.rate l.self.erased l.self.encoder) (range_with_len 0 (l.symbol * share_of l.self.rate + l.place));
+  items : l.bits.items ≡ map (known_at (g.L.LabelValues.known l.labels) l.self.rate l.self.erased l.self.encoder)
+      (range_with_len 0 (l.symbol * share_of l.self.rate + l.place));
   len : vec_len l.bits ≡ l.symbol * share_of l.self.rate + l.place;
   capacity : vec_capacity l.bits ≡ vec_capacity l.fn.bits;
 }

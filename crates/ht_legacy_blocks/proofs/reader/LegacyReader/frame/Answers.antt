@@ -42,5 +42,6 @@ returns-in-Err-clause-told g c =
     let some : 0 < c.args.frames = omega (arith, c.requires.some) in
     halts_seen old old.course (captures_due c.args.frames) old.at
     (record { course = refl; state = ap state_of c.requires.stage ∙ next_frame c.args.frames; at = refl }) source after c.in-Err.fault c.requires.none
-    (subst (λ (n : ℕ). StopsWithCause (reader_in captures (captures_due c.args.frames) n source) after c.in-Err.fault) (ap (λ (r : Progress). r.at) c.self.view_is)
+    (subst (λ (n : ℕ). StopsWithCause (reader_in captures (captures_due c.args.frames) n source) after c.in-Err.fault)
+        (ap (λ (r : Progress). r.at) c.self.view_is)
     (c.in-Err.ensures.told c.args.frames some))

@@ -19,7 +19,8 @@ returns-clause-books g c =
     record { put = e.books.put; part = e.books.part; faults = here e.books.faults } in
     let same : c.args.self.now ≡ old = sym c.self.view_is ∙ sym (ap (λ (f : FrameSoFar). kept_frames f []) c.new-receiver.ensures.under_way) in
     record {
-      books = books_of b.shown (booked_left b.booked) before.book.now after.book.now c.args.book.now _ old new c.args.self.now (kept_frames _ []) (search rules) (search rules) same (search rules) books;
+      books = books_of b.shown (booked_left b.booked) before.book.now after.book.now c.args.book.now _ old new c.args.self.now (kept_frames _ [])
+          (search rules) (search rules) same (search rules) books;
       due = e.due;
       stays = e.stays;
     }

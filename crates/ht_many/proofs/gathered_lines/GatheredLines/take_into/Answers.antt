@@ -23,7 +23,8 @@ returns-clause-books g c =
     ∙ (sym (ap (λ (fs : List FrameSoFar). kept_frames c.self.inside.under_way fs) (ap (λ q. q.now.items) lines.queue))
     ∙ sym (ap (λ (f : FrameSoFar). kept_frames f before.queue.now.items) (ap (λ f. f.now) lines.under_way))) in
     record {
-      books = books_of b.shown (booked_left b.booked) before.book.now after.book.now c.args.book.now _ old new c.args.self.now _ (search rules) (search rules) same (search rules) books;
+      books = books_of b.shown (booked_left b.booked) before.book.now after.book.now c.args.book.now _ old new c.args.self.now _ (search rules)
+          (search rules) same (search rules) books;
       due = e.due;
       stays = e.stays;
     }
