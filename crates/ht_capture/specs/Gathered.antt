@@ -41,7 +41,7 @@ ReadsTriangle result rate at before after =
     (turn : Turn) (head : FrameHead) (carrier : ℕ) (present : List Present) → head.rate ≡ rate
     → ReadsTo result (here (Triangle turn head carrier present) at before)
     (λ legs. here (carriers_due turn head (carrier + 1) (present ++ record { carrier = carrier; triangle = legs } ∷ []))
-        (at + triangle_octets (streams_of rate)) after)
+    (at + triangle_octets (streams_of rate)) after)
     (λ legs. head_given head (carrier + 1)) after
 
 -- What a call comes to that reads the samples of a symbol at this offset, whichever subcarriers are present. Where the answer is

@@ -51,7 +51,7 @@ module _ (old : Progress) (source : Device ℕ) where
       → Gives (seen old source) (seen new after) (map One (jobs_of part))
   gives_block new after part g =
       subst (λ (items : List (Item FrameHead)). Gives (seen old source) (seen new after) items) (items_of-jobs (jobs_of part))
-          (gives new after (items_in part) g)
+      (gives new after (items_in part) g)
 
   pub completes : (after : Device ℕ) → Completes (shown_by old source) after → Completes (seen old source) after
   completes after c = record { taken = c.taken; octets = c.octets; means = ap mapped c.means }

@@ -19,8 +19,8 @@ use Rattle.ht_cert.specs.declared.record.Record.{Record}
 use Rattle.ht_cert.specs.declared.turn.Turn.{Turn}
 use Rattle.ht_cert.specs.Records.{claim_width, claimed, code_of, modulation_at, with_marks}
 use Rattle.ht_cert.specs.Formats.{RecordState, Modulated, Streams, Claim, Marks, Mark, certificates, certificates_magic, first_due, is_no_streams, mark_limits}
-use Rattle.ht_cert.specs.Formats.{good_claim, good_mark, good_marks, good_modulation, good_streams, marks_due, marks_given, next_turn, record_limits,
-    recorded, records_due}
+use Rattle.ht_cert.specs.Formats.{good_claim, good_mark, good_marks, good_modulation, good_streams, marks_due, marks_given, next_turn, record_limits}
+use Rattle.ht_cert.specs.Formats.{recorded, records_due}
 use Rattle.ht_cert.specs.Files.{AreNumbered, AreRecords, IsRecord, certificates_file_of, claim_octets, front_octets, mark_octet, record_octets, records_start}
 use Rattle.ht_cert.proofs.Encoded.{claim_encoded}
 use Rattle.ht_cert.proofs.Routes.{mark_back, mark_is, none_given, one_given, over_is, record_is, whole_is}
@@ -119,7 +119,7 @@ in_next turn octets records r left fits i =
       numbered = numbered_more 0 records r i.numbered (subst (λ k. IsRecord k r) (sym size) fits);
       is = i.is ∙ (append_assoc (records_start i.count) (flat_map record_octets records) (record_octets r)
           ∙ (ap (λ z. records_start i.count ++ z) (ap (λ z. flat_map record_octets records ++ z) (sym (append-nil (record_octets r)))
-              ∙ sym (flat_map-append record_octets records (r ∷ [])))
+          ∙ sym (flat_map-append record_octets records (r ∷ [])))
           ∙ sym (append-nil (records_start i.count ++ flat_map record_octets (records ++ r ∷ [])))));
     }
 
@@ -216,7 +216,7 @@ step_marks turn r x octets t records here bytes (held, some, i) (size, good) =
     ap (λ z. front ++ z) (sym back)
     ∙ (ap (λ k. front ++ big_bytes 4 k) (sym all)
     ∙ (sym (append-nil (front ++ big_bytes 4 (length marks + n)))
-        ∙ ap (λ (z : List Bool). (front ++ big_bytes 4 (length marks + n)) ++ map mark_octet z) (sym held.1))) in
+    ∙ ap (λ (z : List Bool). (front ++ big_bytes 4 (length marks + n)) ++ map mark_octet z) (sym held.1))) in
     arrive (marks_due turn r n) t (octets ++ x) records (marks_given r n) here same.0 same.1
     (came_marks turn r n (octets ++ x) records some held.0 (omega (arith, none, few)) (in_more turn octets records front x (done (Mark turn r n)) e i))
 
@@ -308,7 +308,7 @@ step_count x octets t records here bytes (is, none) (size, good) =
     let i : InRecords turn (octets ++ x) [] [] = record { count = n; few = few; size = refl; all = omega arith; numbered = tt; is = all } in
     arrive (first_due n) t (octets ++ x) records [] here same.0 same.1
     (come_none (first_due n) (octets ++ x) records
-        (subst (λ (z : List Record). Came (first_due n) (octets ++ x) z) (sym none) (came_due turn (octets ++ x) [] i)))
+    (subst (λ (z : List Record). Came (first_due n) (octets ++ x) z) (sym none) (came_due turn (octets ++ x) [] i)))
 
 step : (s t : State) (x octets : List ℕ) (records here : List Record) → AreBytes x → Came s octets records
     → IsField (certificates.due s) x (Good t here) → Came t (octets ++ x) (records ++ here)

@@ -47,7 +47,7 @@ points_read : (points : List Point) (octets rest : List ℕ) (at : ℕ) → drop
 points_read [] octets rest at is fit = refl
 points_read (p ∷ points) octets rest at is fit =
     let first : drop at octets ≡ point_octets p ++ (flat_map point_octets points ++ rest) = is
-        ∙ append_assoc (point_octets p) (flat_map point_octets points) rest in
+    ∙ append_assoc (point_octets p) (flat_map point_octets points) rest in
     let next : drop (at + 2) octets ≡ flat_map point_octets points ++ rest =
     behind_more octets (point_octets p) (flat_map point_octets points ++ rest) at 2 first refl in
     ap (λ (x : Point). x ∷ points_at (length points) octets (at + 2)) (point_read octets _ at p first fit.0 fit.1)

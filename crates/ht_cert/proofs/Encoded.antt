@@ -54,7 +54,7 @@ points_back n octets at enough bytes =
 -- what was read of such octets is a record, and has these octets
 pub claim_encoded : (number : ℕ) (m : Modulation) (streams : ℕ) (x : List ℕ) → 1 ≤ streams → streams ≤ 4 → length x ≡ claim_width streams → AreBytes x
     → IsRecord number (claimed number m streams x) × (length (claimed number m streams x).job.system ≡ streams)
-        × (claim_octets (claimed number m streams x) ≡ x)
+    × (claim_octets (claimed number m streams x) ≡ x)
 unfolding claimed claim_octets triangle_of
 claim_encoded number m streams x some few wide bytes =
     let t = triangle_of streams x in

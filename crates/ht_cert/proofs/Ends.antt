@@ -42,7 +42,7 @@ marks_end (suc n) turn r rest =
     let less : suc n - 1 ≡ n = omega arith in
     same_as certificates (marks_due turn r (suc n)) (Body (Mark turn r (suc n))) (mark_is turn r (suc n) (omega arith))
     (mark_first (suc n) turn r (λ q. same_as certificates (marks_due turn q (suc n - 1)) (marks_due turn q n) (ap (marks_due turn q) less)
-        (marks_end n turn q rest)))
+    (marks_end n turn q rest)))
 
 mark_ends : (left : ℕ) (turn : Turn) (r : Record) → RestEnds turn → HasEnd (Body (Mark turn r left))
 mark_ends left turn r rest = mark_first left turn r (λ q. marks_end (left - 1) turn q rest)
@@ -63,7 +63,7 @@ streams_end : (turn : Turn) (m : Modulation) → RestEnds turn → HasEnd (Body 
 unfolding good_streams
 streams_end turn m rest =
     field_first certificates (Body (Streams turn m)) _ (1 ∷ []) [] (refl, checked_good BadStreams is_no_streams (good_streams turn m) (1 ∷ []) _ refl refl)
-        (claim_ends turn m 1 rest)
+    (claim_ends turn m 1 rest)
 
 modulation_ends : (turn : Turn) → RestEnds turn → HasEnd (Body (Modulated turn))
 unfolding good_modulation

@@ -12,8 +12,8 @@ use Rattle.ht_cert.specs.Formats.{Modulated, Streams, Claim, Marks, Mark, certif
 use Rattle.ht_cert.specs.Files.{AreNumbered, AreRecords, IsRecord, certificates_file_of, claim_octets, front_octets, mark_octet, record_octets, records_start}
 use Rattle.ht_cert.proofs.Decoded.{bare, claim_back, claim_size}
 use Rattle.ht_cert.proofs.Reading.{marks_then, no_marks_more}
-use Rattle.ht_cert.proofs.Routes.{mark_is, none_given, one_given, one_mark, over_is, record_is, route_claim, route_mark, route_marks, route_modulation,
-    route_streams, whole_is}
+use Rattle.ht_cert.proofs.Routes.{mark_is, none_given, one_given, one_mark, over_is, record_is, route_claim, route_mark, route_marks, route_modulation}
+use Rattle.ht_cert.proofs.Routes.{route_streams, whole_is}
 
 -- the marks of a record, whatever is there so far
 record MarksRoute (turn : Turn) (r : Record) (marks : List Bool) : Type 0 where
@@ -34,7 +34,7 @@ marks_route (m ∷ ms) turn r =
     let less : suc n - 1 ≡ n = omega arith in
     let first : Route certificates (Body (Mark turn r (suc n))) (marks_due turn one n) (mark_octet m ∷ []) (marks_given one n) =
     subst (λ k. Route certificates (Body (Mark turn r (suc n))) (marks_due turn one k) (mark_octet m ∷ []) (marks_given one k)) less
-        (route_mark turn r (suc n) m) in
+    (route_mark turn r (suc n) m) in
     record {
       items = marks_given one n ++ rest.items;
       route = route_from certificates (marks_due turn r (suc n)) (Body (Mark turn r (suc n))) (records_due (next_turn turn)) _ _
@@ -48,7 +48,7 @@ marks_route (m ∷ ms) turn r =
 -- a record
 front_route : (turn : Turn) (r : Record) → 0 < turn.left → IsRecord turn.number r
     → Route certificates (records_due turn) (marks_due turn (bare r) (length r.certificate.marks)) (front_octets r)
-        (marks_given (bare r) (length r.certificate.marks))
+    (marks_given (bare r) (length r.certificate.marks))
 unfolding front_octets
 front_route turn r left fits =
     let f = certificates in

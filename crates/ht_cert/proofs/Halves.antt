@@ -17,4 +17,4 @@ lower_half n small =
     let h9 : 0 ≡ n / 256 ^ 9 % 256 = omega (arith, small) in
     let h8 : 0 ≡ n / 256 ^ 8 % 256 = omega (arith, small) in
     cons_same _ _ _ _ h15 (cons_same _ _ _ _ h14
-        (cons_same _ _ _ _ h13 (cons_same _ _ _ _ h12 (cons_same _ _ _ _ h11 (cons_same _ _ _ _ h10 (cons_same _ _ _ _ h9 (cons_same _ _ _ _ h8 (refl))))))))
+    (cons_same _ _ _ _ h13 (cons_same _ _ _ _ h12 (cons_same _ _ _ _ h11 (cons_same _ _ _ _ h10 (cons_same _ _ _ _ h9 (cons_same _ _ _ _ h8 (refl))))))))

@@ -22,8 +22,8 @@ use Rattle.ht_capture.specs.Systems.{samples_at, triangle_of}
 use Rattle.ht_capture.proofs.Grids.{length-triangle_of}
 use Rattle.ht_cert.specs.Records.{claim_width, claimed, code_of, points_begin, samples_begin, with_marks}
 use Rattle.ht_cert.proofs.Encoded.{length-points_at}
-use Rattle.ht_cert.specs.Formats.{RecordState, Modulated, Streams, Claim, Marks, Mark, certificates, is_no_streams, marks_due, marks_given, next_turn,
-    records_due}
+use Rattle.ht_cert.specs.Formats.{RecordState, Modulated, Streams, Claim, Marks, Mark, certificates, is_no_streams, marks_due, marks_given, next_turn}
+use Rattle.ht_cert.specs.Formats.{records_due}
 use Rattle.ht_cert.specs.Readers.{Fails, GivesRecord, HasItsPoints, ReadsClaim, TakesSome, here}
 use Rattle.ht_cert.specs.declared.reader.Came.{Came}
 use Rattle.ht_cert.specs.declared.reader.Came.TheVariants.{Whole, End}
@@ -55,8 +55,12 @@ marks_then r xs ys =
 
 -- a record without marks that was given these
 pub marks_set : (r new : Record) (marks : List Bool) → r.certificate.marks ≡ []
-    → new ≡ record { modulation = r.modulation; job = r.job; certificate = record
-        { vector = r.certificate.vector; distance = r.certificate.distance; marks = marks } }
+    → new ≡ record {
+      modulation = r.modulation;
+      job = r.job;
+      certificate = record
+          { vector = r.certificate.vector; distance = r.certificate.distance; marks = marks };
+    }
     → new ≡ with_marks r marks
 unfolding with_marks
 marks_set r new marks none is =
@@ -124,7 +128,7 @@ streams_read turn m streams at a b c left some few x y =
     gives_more (here (records_due turn) at a) (here (Body (Streams turn m)) (at + 1) b) (here (Body (Claim turn m streams)) (at + 2) c) [] []
     (modulation_read turn m at a b left x)
     (route_gives certificates (Body (Streams turn m)) (Body (Claim turn m streams)) (streams ∷ []) [] (at + 1) (at + 2) b c
-        (route_streams turn m streams some few) place y)
+    (route_streams turn m streams some few) place y)
 
 pub claim_read : (turn : Turn) (m : Modulation) (streams at behind : ℕ) (r : Record) (a b c d : Device ℕ) → 0 < turn.left → 1 ≤ streams → streams ≤ 4
     → Takes a b (code_of m ∷ []) → Takes b c (streams ∷ []) → ReadsClaim turn.number m streams r c d → behind ≡ at + 2 + claim_width streams
@@ -161,8 +165,12 @@ claim_failed turn m streams at a b c after fault left some few x later y later-c
 -- and were kept in the record
 pub marks_whole_as : (old : ReaderView Record) (turn : Turn) (r new : Record) (marks : List Bool) (count k at : ℕ) (source : Device ℕ)
     → k ≡ count → r.certificate.marks ≡ []
-    → new ≡ record { modulation = r.modulation; job = r.job; certificate = record
-        { vector = r.certificate.vector; distance = r.certificate.distance; marks = marks } }
+    → new ≡ record {
+      modulation = r.modulation;
+      job = r.job;
+      certificate = record
+          { vector = r.certificate.vector; distance = r.certificate.distance; marks = marks };
+    }
     → GivesMarks old turn (with_marks r marks) (count - k) (at + k) source → Gives old (here (records_due (next_turn turn)) (at + count) source) (new ∷ [])
 marks_whole_as old turn r new marks count k at source end none is g =
     let all : new ≡ with_marks r marks = marks_set r new marks none is in

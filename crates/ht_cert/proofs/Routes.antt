@@ -98,7 +98,7 @@ unfolding good_claim
 route_claim turn m streams x wide =
     route_field certificates (Body (Claim turn m streams)) (Body (Marks turn (claimed turn.number m streams x))) x []
     (field_is (claim_width streams) (good_claim turn m streams) x (Good (Body (Marks turn (claimed turn.number m streams x))) [])
-        (some_claim streams) wide refl)
+    (some_claim streams) wide refl)
 
 marks_is : (turn : Turn) (r : Record) (octets : List ℕ) (count : ℕ) → big_number 4 octets ≡ count
     → good_marks turn r octets ≡ Good (marks_due turn r count) (marks_given r count)

@@ -1,6 +1,6 @@
 -- What stands in front of the records, and how their parts are decoded.
-use Rattle.std.proofs.Common.{◌≡◌, ℕ, suc, ◌+◌, ◌-◌, ◌*◌, ◌^◌, ◌<◌, ◌≤◌, List, [], ◌∷◌, ◌++◌, length, nat_lt, false, Ok, Result, refl, sym, ap, subst, ◌∙◌,
-    append_assoc, arith}
+use Rattle.std.proofs.Common.{◌≡◌, ℕ, suc, ◌+◌, ◌-◌, ◌*◌, ◌^◌, ◌<◌, ◌≤◌, List, [], ◌∷◌, ◌++◌, length, nat_lt, false, Ok, Result, refl, sym, ap, subst, ◌∙◌}
+use Rattle.std.proofs.Common.{append_assoc, arith}
 use Rattle.std.proofs.lemmas.Bool.Decides.{nat_tests}
 use Rattle.ht_io.specs.Devices.{Device, Takes}
 use Rattle.ht_io.specs.declared.faults.InFault.{InFault}
@@ -87,7 +87,7 @@ pub claim_made : (number : ℕ) (m : Modulation) (s : ℕ) (octets : List ℕ) (
     → grid ≡ full_grid m s → system ≡ rows_of legs ys → job ≡ record { number = number; place = no_place; grid = grid; system = system }
     → vector ≡ points_at s octets p → d ≡ big_number 16 (take n (drop q octets)) → n ≡ length octets - q → marks ≡ []
     → (let r : Record = record { modulation = m; job = job; certificate = record { vector = vector; distance = d; marks = marks } } in r)
-        ≡ claimed number m s octets
+    ≡ claimed number m s octets
 unfolding claimed
 claim_made number m s octets at p q n legs ys grid system job vector d marks at-is p-is q-is legs-is ys-is grid-is system-is job-is vector-is d-is n-is none =
     let rows : system ≡ rows_of (triangle_of s octets) (samples_at s octets (samples_begin s)) =
@@ -100,15 +100,25 @@ claim_made number m s octets at p q n legs ys grid system job vector d marks at-
     let v : vector ≡ points_at s octets (points_begin s) = vector-is ∙ ap (λ k. points_at s octets k) p-at in
     let e : d ≡ big_number 16 (drop (distance_begins s) octets) =
     d-is ∙ (to_the_end (λ z. big_number 16 z) octets q n n-is ∙ ap (λ k. big_number 16 (drop k octets)) q-at) in
-    let j : job ≡ record { number = number; place = no_place; grid = full_grid m s; system = rows_of (triangle_of s octets)
-        (samples_at s octets (samples_begin s)) } =
+    let j : job ≡ record {
+      number = number;
+      place = no_place;
+      grid = full_grid m s;
+      system = rows_of (triangle_of s octets)
+          (samples_at s octets (samples_begin s));
+    } =
     job-is
     ∙ (ap (λ (g : List Axes). let v : JobView = record { number = number; place = no_place; grid = g; system = system } in v) grid-is
     ∙ ap (λ (r : List Row). let v : JobView = record { number = number; place = no_place; grid = full_grid m s; system = r } in v) rows) in
     let made : JobView → List Point → ℕ → List Bool → Record =
     λ a b x y. record { modulation = m; job = a; certificate = record { vector = b; distance = x; marks = y } } in
-    let job' : JobView = record { number = number; place = no_place; grid = full_grid m s; system = rows_of (triangle_of s octets)
-        (samples_at s octets (samples_begin s)) } in
+    let job' : JobView = record {
+      number = number;
+      place = no_place;
+      grid = full_grid m s;
+      system = rows_of (triangle_of s octets)
+          (samples_at s octets (samples_begin s));
+    } in
     let vector' = points_at s octets (points_begin s) in
     let d' = big_number 16 (drop (distance_begins s) octets) in
     ap (λ a. made a vector d marks) j

@@ -1,6 +1,6 @@
 -- Records that are put piece by piece.
-use Rattle.std.proofs.Common.{◌≡◌, ℕ, suc, ◌+◌, ◌-◌, ◌<◌, ◌≤◌, List, [], ◌∷◌, ◌++◌, length, drop, map, flat_map, slice_index_or, refl, sym, ap, ◌∙◌,
-    append_assoc, arith, Bool}
+use Rattle.std.proofs.Common.{◌≡◌, ℕ, suc, ◌+◌, ◌-◌, ◌<◌, ◌≤◌, List, [], ◌∷◌, ◌++◌, length, drop, map, flat_map, slice_index_or, refl, sym, ap, ◌∙◌}
+use Rattle.std.proofs.Common.{append_assoc, arith, Bool}
 use Rattle.std.proofs.lemmas.List.{append-nil, drop_all, length-drop, length-map}
 use Rattle.std.proofs.Math.Seq.{drop-cons}
 use Rattle.byteorder.specs.Endian.{big_bytes}
@@ -24,7 +24,7 @@ rows_next rows k lt =
 
 pub samples_next : (rows : List Row) (k : ℕ) → k < length rows
     → flat_map sample_octets (samples (drop k rows)) ≡ sample_octets (slice_index_or rows k no_row).sample
-        ++ flat_map sample_octets (samples (drop (k + 1) rows))
+    ++ flat_map sample_octets (samples (drop (k + 1) rows))
 samples_next rows k lt =
     let one : suc k ≡ k + 1 = omega arith in
     ap (λ (r : List Row). flat_map sample_octets (samples r))
@@ -37,7 +37,7 @@ rows_done chunk old rows k over eq = sym (append-nil chunk) ∙ (ap (λ (r : Lis
 
 pub samples_done : (chunk old : List ℕ) (rows : List Row) (k : ℕ) → length rows ≤ k
     → chunk ++ flat_map sample_octets (samples (drop k rows)) ≡ old ++ flat_map sample_octets (samples rows)
-        → chunk ≡ old ++ flat_map sample_octets (samples rows)
+    → chunk ≡ old ++ flat_map sample_octets (samples rows)
 samples_done chunk old rows k over eq =
     sym (append-nil chunk) ∙ (ap (λ (r : List Row). chunk ++ flat_map sample_octets (samples r)) (sym (drop_all k rows over)) ∙ eq)
 

@@ -1,6 +1,6 @@
 -- The records of frames are those of the items of their capture.
-use Rattle.std.proofs.Common.{◌≡◌, ℕ, zero, suc, ◌+◌, ◌*◌, List, [], ◌∷◌, ◌++◌, length, take, drop, map, flat_map, Result, Ok, Err, refl, sym, ap, subst,
-    ◌∙◌, append_assoc, append-nil, inr}
+use Rattle.std.proofs.Common.{◌≡◌, ℕ, zero, suc, ◌+◌, ◌*◌, List, [], ◌∷◌, ◌++◌, length, take, drop, map, flat_map, Result, Ok, Err, refl, sym, ap, subst}
+use Rattle.std.proofs.Common.{◌∙◌, append_assoc, append-nil, inr}
 use Rattle.std.proofs.lemmas.List.{length-map}
 use Rattle.ht_io.specs.Devices.{Device, Grows, GrowsByPart}
 use Rattle.ht_fields.specs.Cases.{File}
@@ -37,8 +37,8 @@ use Rattle.ht_cert.specs.Files.{certificates_file_of, record_octets, records_sta
 use Rattle.ht_certify.specs.declared.subcarriers.Subcarrier.{Subcarrier}
 use Rattle.ht_certify.specs.Writing.{Writes}
 use Rattle.ht_certify.specs.Certifying.{CertifiesTo, certifying, record_for, records_of}
-use Rattle.ht_certify.specs.Making.{file_of_frames, has_data, records_of_frame, records_of_frames, records_of_symbol, records_of_symbols, records_on,
-    subcarrier_of, subcarriers_of}
+use Rattle.ht_certify.specs.Making.{file_of_frames, has_data, records_of_frame, records_of_frames, records_of_symbol, records_of_symbols, records_on}
+use Rattle.ht_certify.specs.Making.{subcarrier_of, subcarriers_of}
 use Rattle.ht_certify.proofs.Numberless.{Same, bare, same_bare, same_file}
 
 -- a subcarrier that carries data has the full constellation
@@ -125,7 +125,7 @@ frame_made f m g n symbols ss samples em eg en ek es ex =
     ∙ (ap (λ x. records_of_symbols (modulation_of f.rate) (grid_of f.rate) (streams_of f.rate) x ss samples) ek
     ∙ (ap (λ (x : List Subcarrier). records_of_symbols (modulation_of f.rate) (grid_of f.rate) (streams_of f.rate) (symbols_of f.rate f.length) x samples) es
     ∙ ap (λ (x : List Sample). records_of_symbols (modulation_of f.rate) (grid_of f.rate) (streams_of f.rate) (symbols_of f.rate f.length)
-        (subcarriers_of f) x) ex))))
+    (subcarriers_of f) x) ex))))
 
 -- the frames that were read certify to the file of their records, of which this was put
 pub certifies : (a b c d : Device ℕ) (frames : List CaptureFrame) → ReadsCaptures a b frames → (Puts : List ℕ → Type 0)

@@ -11,8 +11,8 @@ use Rattle.ht_witness.specs.declared.check_fault.CheckFault.{CheckFault}
 use Rattle.ht_witness.proofs.Faults.{no_fault}
 use Rattle.ht_cert.specs.declared.record.Record.{Record}
 use Rattle.ht_cert.specs.Formats.{certificates}
-use Rattle.ht_check.specs.Checks.{all_yes_text, answer_line, check_end_of, check_line, check_lines_from, check_lines_of, check_text, yes_count,
-    yes_lines_from, yes_of}
+use Rattle.ht_check.specs.Checks.{all_yes_text, answer_line, check_end_of, check_line, check_lines_from, check_lines_of, check_text, yes_count}
+use Rattle.ht_check.specs.Checks.{yes_lines_from, yes_of}
 
 abbrev pub Holds : Record → Type 0
 Holds r = Checked r.job r.certificate

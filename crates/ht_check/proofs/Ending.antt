@@ -161,7 +161,7 @@ module _ (source sink : Device ℕ) where
       own_text_is : unrefused checking all_taken ≡ check_lines_of k.records ++ check_end_of k.records
       own_text_is =
           ap (λ (m : Meaning Record). where_faulty m.fault (check_lines_of m.items) (check_lines_of m.items ++ last_text m.fault (check_end_of m.items)))
-              all_mean
+          all_mean
 
       -- the lines and the last one, of which these were put
       split : (last : List ℕ) → last ≡ waiting ++ check_end_of k.records → check_lines_of k.records ++ check_end_of k.records ≡ k.put ++ last

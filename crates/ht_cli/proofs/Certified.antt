@@ -61,8 +61,8 @@ use Rattle.ht_check.proofs.Accepting.{Holds, accepts}
 use Rattle.ht_witness.proofs.Trusting.{checked_near}
 use Rattle.ht_certify.specs.declared.subcarriers.Subcarrier.{Subcarrier}
 use Rattle.ht_certify.specs.Certifying.{CertifiesTo, certified, record_for, record_of, records_behind, records_of}
-use Rattle.ht_certify.specs.Making.{job_on, records_of_frame, records_of_frames, records_of_symbol, records_of_symbols, records_on, subcarrier_of,
-    subcarriers_of}
+use Rattle.ht_certify.specs.Making.{job_on, records_of_frame, records_of_frames, records_of_symbol, records_of_symbols, records_on, subcarrier_of}
+use Rattle.ht_certify.specs.Making.{subcarriers_of}
 use Rattle.ht_certify.proofs.Counting.{data_among, data_few, length-frame}
 use Rattle.ht_certify.proofs.Fewness.{marks_few}
 use Rattle.ht_certify.proofs.Holding.{Holds as HoldsOfJob, all_hold}

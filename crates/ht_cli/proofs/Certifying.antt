@@ -66,4 +66,4 @@ module _ (all output : List ℕ) (a b c d e f g h : Device ℕ) (bytes : AreByte
       let same : (meaning certificates certificates.start 0 output).items ≡ certified all =
       ap (λ (m : Meaning Record). m.items) (met certificates output (certified all) File file) in
       (text_known_refused certificates check_text check_lines e f g h output read second).0
-          (subst (λ (rs : List Record). IsFile certificates output rs) (sym same) file)
+      (subst (λ (rs : List Record). IsFile certificates output rs) (sym same) file)

@@ -12,8 +12,8 @@ use Rattle.ht_fields.specs.Grammar.{Good}
 use Rattle.ht_fields.specs.Cases.{IsEnd, IsField, IsFile, Leads, octets_of_fields}
 use Rattle.ht_fields.specs.Tests.{AreBytes, differs}
 use Rattle.ht_fields.proofs.Answered.{file_items}
-use Rattle.ht_heads.specs.Starts.{StartState, Magic, Version, Count, Body, Over, good_count, good_magic, good_version, is_outside, magic_due, start_due,
-    started_octets}
+use Rattle.ht_heads.specs.Starts.{StartState, Magic, Version, Count, Body, Over, good_count, good_magic, good_version, is_outside, magic_due, start_due}
+use Rattle.ht_heads.specs.Starts.{started_octets}
 use Rattle.ht_heads.proofs.Counts.{bytes_back_as}
 use Rattle.ht_counted.specs.Counted.{AreCounted, CountedFormat, IsCounted, counted, counted_format, counted_octets, entries_due}
 use Rattle.ht_counted.proofs.Counting.{entry_is, over_is, written}

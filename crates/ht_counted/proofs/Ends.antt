@@ -9,8 +9,8 @@ use Rattle.ht_fields.specs.Grammar.{Grammar, Verdict, Good}
 use Rattle.ht_fields.specs.Tests.{checked, differs}
 use Rattle.ht_fields.proofs.Choices.{checked_good}
 use Rattle.ht_fields.proofs.Readers.{field_is}
-use Rattle.ht_heads.specs.Starts.{StartState, StartedFormat, Magic, Version, Count, Body, Over, good_count, good_magic, good_version, is_outside, magic_due,
-    started}
+use Rattle.ht_heads.specs.Starts.{StartState, StartedFormat, Magic, Version, Count, Body, Over, good_count, good_magic, good_version, is_outside, magic_due}
+use Rattle.ht_heads.specs.Starts.{started}
 use Rattle.ht_heads.proofs.Leading.{same_octet}
 use Rattle.ht_heads.proofs.Started.{inside}
 use Rattle.ht_counted.specs.Counted.{IsCount}

@@ -34,7 +34,7 @@ goes_on a b c ab bc =
           ∙ (append_assoc (map answer_of a.hits) (map nearest_answer (drop start (take mid a.jobs))) (map nearest_answer (drop mid (take end b.jobs)))
           ∙ ap (λ (answers : List JobAnswer). map answer_of a.hits ++ answers)
           (sym (map-append nearest_answer (drop start (take mid a.jobs)) (drop mid (take end b.jobs)))
-              ∙ ap (λ (jobs : List JobView). map nearest_answer jobs) joined)));
+          ∙ ap (λ (jobs : List JobView). map nearest_answer jobs) joined)));
     }
   where
     -- a part of a list, in two parts

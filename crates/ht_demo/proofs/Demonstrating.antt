@@ -16,9 +16,12 @@ pub are_received : (plan : Plan) (frames made : List FrameView) (octets left : L
     → frames ≡ made → AreSent plan made octets → start ≡ []
     → TellsTo (booked_of (λ frame. frame ∷ [])) (device octets) (device left) (device start) (device held) ended
     → shown ≡ held → AreResults plan frames shown
-are_received plan frames made octets left start held shown ended same sent none tells is =
-    (octets, subst (λ (fs : List FrameView). AreSent plan fs octets)
-        (sym same) sent, booked_results octets octets left start held shown ended refl none tells is)
+are_received plan frames made octets left start held shown ended same sent none tells is = (
+  octets,
+  subst (λ (fs : List FrameView). AreSent plan fs octets)
+      (sym same) sent,
+  booked_results octets octets left start held shown ended refl none tells is,
+)
 
 -- the sums of such results fit
 pub received_fit : (plan : Plan) (frames : List FrameView) (results : List FrameResult) → AreResults plan frames results → SumsFit results

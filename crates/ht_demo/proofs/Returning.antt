@@ -13,8 +13,8 @@ use Rattle.ht_round.specs.Returned.{returned_from, returned_result, returned_res
 use Rattle.ht_round.proofs.Drawn.{drawn_frames, drawn_octets}
 use Rattle.ht_round.proofs.Simulated.{simulated_results}
 use Rattle.ht_demo.specs.declared.plan.Plan.{Plan}
-use Rattle.ht_demo.specs.Demos.{CanBeSent, IsDemoLine, all_jobs, all_symbols, capture_for, code_in, data_in, line_of, matched_in, pilot_in, planned,
-    returned_line}
+use Rattle.ht_demo.specs.Demos.{CanBeSent, IsDemoLine, all_jobs, all_symbols, capture_for, code_in, data_in, line_of, matched_in, pilot_in, planned}
+use Rattle.ht_demo.specs.Demos.{returned_line}
 use Rattle.ht_demo.proofs.Matching.{matched-cons}
 use Rattle.ht_demo.proofs.Passing.{length-planned}
 

@@ -133,7 +133,7 @@ pub pushed : {B A : Type 0} (of : B → List JobView) (places held size : ℕ) (
     → after ≡ places → slots ≡ w.slots ++ slot_of block None ∷ [] → IsBlockWindow after (held + size) (seen of (window_of w.capacity w.front slots))
 pushed {B} {A} of places held size w block is good room size_is after slots after_is slots_is =
     let due : due_in of slots ≡ due_in of w.slots ++ of block ∷ [] = ap (λ (x : List (SlotOf B A)). due_in of x) slots_is
-        ∙ due_more of w.slots (slot_of block None) in
+    ∙ due_more of w.slots (slot_of block None) in
     let e = ap count_in due ∙ count_in-more (due_in of w.slots) (of block) in
     let h = is.held_is in
     let p = is.places_are in

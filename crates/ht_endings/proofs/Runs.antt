@@ -58,7 +58,7 @@ module _ {S I H : Type 0} (f : Grammar S I) (items_as : List I → List (Item H)
     -- a whole file, of which this follows from the numbers of its frames and of its jobs
     pub whole : (Says : List ℕ → Type 0) (ended : Ended)
         → ((octets : List ℕ) → ended.frames ≡ frames_of (items_as (means_in f octets).items)
-            → ended.jobs ≡ length (jobs_of (items_as (means_in f octets).items))
+        → ended.jobs ≡ length (jobs_of (items_as (means_in f octets).items))
         → Says octets)
         → BlockWhole (front source) pieces source' device device' ended → TellsWhole f pieces source source' device device' Says
     whole Says ended says w =

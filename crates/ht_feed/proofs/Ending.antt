@@ -57,7 +57,7 @@ module _ {H P : Type 0} (start : ReaderView (Item H)) (pieces : List (Headed H) 
         let taken = g.taken ++ r.taken in
         let all_mean : (rest : List ℕ) → start.means (taken ++ rest) ≡ record { items = items; fault = Some fault } =
         λ rest. ap start.means (append_assoc g.taken r.taken rest)
-            ∙ (g.means (r.taken ++ rest) ∙ (ap (before items) (r.means rest) ∙ alone items (Some fault))) in
+        ∙ (g.means (r.taken ++ rest) ∙ (ap (before items) (r.means rest) ∙ alone items (Some fault))) in
         let here : start.means taken ≡ record { items = items; fault = Some fault } = ap start.means (sym (append-nil taken)) ∙ all_mean [] in
         let octets = takes-append start.source mid.source source' g.taken r.taken g.octets r.octets in
         record {
@@ -73,7 +73,7 @@ module _ {H P : Type 0} (start : ReaderView (Item H)) (pieces : List (Headed H) 
     refused_early fault r =
         let taken = g.taken ++ r.taken in
         let here : start.means taken ≡ record { items = items; fault = Some fault } = g.means r.taken
-            ∙ (ap (before items) r.means ∙ alone items (Some fault)) in
+        ∙ (ap (before items) r.means ∙ alone items (Some fault)) in
         let all = takes-all start.source mid.source source' g.taken r.taken g.octets r.octets in
         let total : fault.offset ≡ start.at + length taken = let e = r.place in let h = g.place in omega (arith, e, h, length-append g.taken r.taken) in
         record {
@@ -145,7 +145,7 @@ module _ {H P : Type 0} (start : ReaderView (Item H)) (pieces : List (Headed H) 
 
   each : (left : Option (List ℕ)) (items : List (Item H)) → IfSome left (StartsWith items)
       → ((octets : List ℕ) → StartsWith items octets → GrowsByPart device device' (all_pieces octets))
-          → IfSome left (λ all. GrowsByPart device device' (all_pieces all))
+      → IfSome left (λ all. GrowsByPart device device' (all_pieces all))
   each None items all part = tt
   each (Some octets) items all part = part octets all
 
@@ -156,7 +156,7 @@ module _ {H P : Type 0} (start : ReaderView (Item H)) (pieces : List (Headed H) 
   in_part mid items stop taken rest is reads jobs part =
       let s = saw_reads mid items stop is reads in
       let puts : (octets : List ℕ) → StartsWith items octets
-          → GrowsByPart device device' (all_pieces octets) = λ octets front. part_of octets items taken rest front jobs part in
+      → GrowsByPart device device' (all_pieces octets) = λ octets front. part_of octets items taken rest front jobs part in
       record { taken = s.taken; octets = s.octets; put = puts s.taken s.front; of_all = each start.source.known items s.of_all puts }
 
 -- nothing was taken and nothing put

@@ -122,7 +122,7 @@ module _ {R H P : Type 0} (means : R → List ℕ → Meaning (Item H)) (at : R 
     part_told : (fault : BookFault) → TellsPart first last fault → EndsPartly start pieces source' a.device b.device
     part_told fault part =
         in_part start a.pieces head source' a.device b.device last.standing.reader part.items new.stop part.answered part.rest refl part.reads part.jobs
-            part.part
+        part.part
 
     stops_as : (fault : BookFault) → TellsPart first last fault → StopsAs start pieces source' a.device b.device (fault_of fault)
     stops_as Failed part = (part_told Failed part, part.cause refl)
@@ -136,7 +136,7 @@ module _ {R H P : Type 0} (means : R → List ℕ → Meaning (Item H)) (at : R 
     told_in_part : Tells first last → EndsPartly start pieces source' a.device b.device
     told_in_part tells =
         in_part start a.pieces head source' a.device b.device last.standing.reader tells.items new.stop tells.answered
-            (all_due new.due) refl tells.reads tells.jobs
+        (all_due new.due) refl tells.reads tells.jobs
         (λ more. subst (λ (xs : List P). GrowsByPart a.device b.device xs) (sym (tells.first more))
         (grows_by_part-front a.device b.device tells.put (b.pieces more) (by_part a.device b.device tells.put tells.grows)))
 

@@ -81,7 +81,7 @@ module _ {I : Type 0} (old mid : ReaderView I) (after : Device ℕ) where
   gives_breaks a b =
       let is : old.means (a.taken ++ b.taken) ≡ mid.means b.taken = a.means b.taken in
       let total : mid.at + length b.taken ≡ old.at + length (a.taken ++ b.taken) = farther old.at mid.at
-          (mid.at + length b.taken) a.taken b.taken a.place refl in
+      (mid.at + length b.taken) a.taken b.taken a.place refl in
       record {
         taken = a.taken ++ b.taken;
         octets = takes-append old.source mid.source after a.taken b.taken a.octets b.octets;

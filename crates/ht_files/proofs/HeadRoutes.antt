@@ -84,7 +84,7 @@ pub head_ends : {B I : Type 0} (h : HeadedFormat B I) (left at : ℕ) (source af
 head_ends h left at source after fault some fails =
     halts_ends (reader_in (grammar_of h) (frame_due left) at source) after fault
     (head_halts (grammar_of h) (frame_due left) (λ code. Body (Mcs left code)) (λ rate. Body (Length left rate)) at source after fault
-        (has_head h left some) fails)
+    (has_head h left some) fails)
 
 pub heads_end : {B I A : Type 0} (h : HeadedFormat B I) (left at : ℕ) (source after : Device ℕ) (result : Result A InFault) → 0 < left
     → IfErr result (HeadFails at source after) → IfErr result (EndsEarly (reader_in (grammar_of h) (frame_due left) at source) after)

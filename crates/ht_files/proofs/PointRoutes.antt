@@ -144,7 +144,7 @@ route_frame_points [] y left rate len xs all is fitting whole =
     (point_field due y _ fits (last_point due y fits last)) in
     subst (λ (z : List Point). Route symbols (behind_head due) (frame_due (left - 1)) (flat_map point_octets (y ∷ [])) (frame_with rate len z ∷ [])) (sym is)
     (route_as symbols (behind_head due) (frame_due (left - 1)) (point_octets y) _ (frame_with rate len (xs ++ y ∷ []) ∷ [])
-        (sym (append-nil (point_octets y))) field)
+    (sym (append-nil (point_octets y))) field)
 route_frame_points (z ∷ ys) y left rate len xs all is fitting whole =
     let due = points_due left rate len xs in
     let fits = fits_next rate all xs (z ∷ ys) y is fitting in
@@ -306,7 +306,7 @@ symbol_ended left r len at w old new octets source after fault fitting most room
     (subst (λ (z : List ℕ). EndsEarly (reader_in symbols (behind_head (points_due left r len old)) at source) after
     (Format (record { kind = Truncated; offset = at + length z }))) (sym adds.split)
     (block_ended symbols (behind_head (points_due left r len old)) (behind_head (points_due left r len new))
-        (flat_map point_octets adds.added) adds.rest at source after
+    (flat_map point_octets adds.added) adds.rest at source after
     (added_route left r len old new adds.added adds.points fitting few) adds.short
     (subst (λ (z : List ℕ). TakesAll source after z) adds.split taken)))
 
@@ -318,7 +318,7 @@ symbol_broke left r len at w old new octets source after fitting most room taken
     let few : length new < points_of r len =
     omega (arith, added_size old new adds.added octets adds.rest adds.points adds.split, adds.short, most, room) in
     block_broke symbols (behind_head (points_due left r len old)) (behind_head (points_due left r len new))
-        (flat_map point_octets adds.added) adds.rest at source after
+    (flat_map point_octets adds.added) adds.rest at source after
     (added_route left r len old new adds.added adds.points fitting few) adds.short
     (takes_as source after octets (flat_map point_octets adds.added ++ adds.rest) adds.split taken) rose
 

@@ -113,12 +113,12 @@ module _ {B V : Type 0} (h : HeadedFormat B V) (rate : V → Rate) (size : V →
         let p = passed BadBandwidth (is_above 1) (good_bandwidth left) x next here good.1 in
         let state : HeadState B = Body (Mcs left (octet_of x)) in
         bandwidth_back left (octet_of x) x rest (single x good.0) (at_most 1 (octet_of x) p.0)
-            (same_state state next rest (same_good state next [] here p.1).0 w)
+        (same_state state next rest (same_good state next [] here p.1).0 w)
     back (Mcs left code) next x here rest bytes good w =
         let p = passed BadMcs (is_above 31) (good_mcs left code) x next here good.1 in
         let state : HeadState B = Body (Length left (rate_at code (octet_of x))) in
         mcs_back left code (octet_of x) x rest (single x good.0) (at_most 31 (octet_of x) p.0)
-            (same_state state next rest (same_good state next [] here p.1).0 w)
+        (same_state state next rest (same_good state next [] here p.1).0 w)
     back (Length left r) next x here rest bytes good w =
         let p = passed BadLength is_zero (good_length h left r) x next here good.1 in
         let state : HeadState B = behind_head (h.first left r (big_number 2 x)) in

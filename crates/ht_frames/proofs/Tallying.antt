@@ -153,7 +153,7 @@ module _ {H V : Type 0} (plan : Plan H V) where
     -- it doesn't matter whether the frame that a block's first job begins was begun before
     pub entered : (head : H) (jobs : List JobView) (f g : SoFar H V) (more : List (Headed H)) → 1 ≤ length jobs → g ≡ frame_for plan begins head f → 1 ≤ g.left
         → results_by plan begins result_of f (headed_due (due_of head jobs) ++ more)
-            ≡ results_by plan begins result_of g (headed_due (due_of head jobs) ++ more)
+        ≡ results_by plan begins result_of g (headed_due (due_of head jobs) ++ more)
     entered head [] f g more some is left = absurd (omega (arith, some))
     entered head (job ∷ jobs) f g more some is left =
         ap (λ (z : SoFar H V). given_if fold z ++ results_by plan begins result_of z (headed_due (due_of head jobs) ++ more)) (enters head job f g is left)

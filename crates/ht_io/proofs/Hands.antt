@@ -1,6 +1,6 @@
 -- What is at hand: octets up to the next stop, and the buffer of a reader of std.
-use Rattle.std.proofs.Common.{◌≡◌, ◌+◌, ◌<◌, ◌≤◌, ◌⊎◌, ℕ, zero, suc, Bool, true, false, List, [], ◌∷◌, ◌++◌, length, take, drop, Contains, inl, inr, refl,
-    ap, ◌∙◌, sym, subst, arith, Option, Some, None, nat_eq, take-append-drop, append_assoc, drop-drop, length-drop}
+use Rattle.std.proofs.Common.{◌≡◌, ◌+◌, ◌<◌, ◌≤◌, ◌⊎◌, ℕ, zero, suc, Bool, true, false, List, [], ◌∷◌, ◌++◌, length, take, drop, Contains, inl, inr, refl}
+use Rattle.std.proofs.Common.{ap, ◌∙◌, sym, subst, arith, Option, Some, None, nat_eq, take-append-drop, append_assoc, drop-drop, length-drop}
 use Rattle.std.specs.Prelude.{if◌then◌else◌}
 use Rattle.std.specs.List.{list_any}
 use Rattle.std.proofs.lemmas.Bool.Decides.{nat_tests}
@@ -73,7 +73,7 @@ ready-is cuts failing octets at count works some within cut failed full =
     up_to_stop-is (cuts ++ failing) at count octets some within
     (All-append (λ stop. (stop ≤ at) ⊎ (at + count ≤ stop)) cuts failing cut failed) full in
     elim (list_any (nat_eq at) failing) as (λ b. (b ≡ true → Contains failing at)
-        → take count octets ≡ (if b then [] else up_to_stop (cuts ++ failing) at octets)) [
+    → take count octets ≡ (if b then [] else up_to_stop (cuts ++ failing) at octets)) [
       | true ↦ λ has. absurd (works (has refl))
       | false ↦ λ has. is
     ] (λ found. Contains-from_any exact at failing found)

@@ -1,6 +1,6 @@
 -- Known pieces, over several reads and puts.
-use Rattle.std.proofs.Common.{◌≡◌, ◌+◌, List, [], ◌++◌, length, take, Option, Some, None, refl, ap, subst, ◌∙◌, sym, append_assoc, append-nil, arith,
-    length-append}
+use Rattle.std.proofs.Common.{◌≡◌, ◌+◌, List, [], ◌++◌, length, take, Option, Some, None, refl, ap, subst, ◌∙◌, sym, append_assoc, append-nil, arith}
+use Rattle.std.proofs.Common.{length-append}
 use Rattle.std.proofs.Math.Seq.{take-append-add}
 use Rattle.std.proofs.lemmas.List.{take-append-le}
 use Rattle.ht_io.specs.Pieces.{KnownTaken, KnownAllTaken, NoneAtKnownEnd, KnownGrown, KnownGrownByPart}

@@ -71,7 +71,7 @@ module _ {R H : Type 0} (means : R → List ℕ → Meaning (Item H)) (at : R �
     finished books =
         well failed failed (seen desk before x) (seen desk after y) none refl
         (tells_put means at desk desk.due source (lane_telling pieces x before) (lane_telling pieces y after) [] (append-nil (all_due desk.due)) books
-            (λ w. tt))
+        (λ w. tt))
 
     -- not all of it could be put, or made
     pub unfinished : {B : Type 0} {fault : BookFault} → BooksJobs {A = B} (Err fault) before after (pieces x) (pieces y) [] [] []
@@ -79,7 +79,7 @@ module _ {R H : Type 0} (means : R → List ℕ → Meaning (Item H)) (at : R �
     unfinished {fault = fault} books =
         ill failed (seen desk before x) (seen desk after y) fault none
         (tells_part means at desk source (lane_telling pieces x before) (lane_telling pieces y after) fault [] (all_due desk.due)
-            (append-nil (all_due desk.due)) books)
+        (append-nil (all_due desk.due)) books)
 
 -- a block more is due
 pub one_more_due : {R H : Type 0} (counts : R → Counts) (most : ℕ) (old new : DeskView R H) (jobs : List JobView) → AddsBlock counts most old new jobs

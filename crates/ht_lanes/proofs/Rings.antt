@@ -1,6 +1,6 @@
 -- What is due of each lane is what that lane waits for.
-use Rattle.std.proofs.Common.{◌≡◌, ◌≢◌, ℕ, zero, suc, ◌+◌, ◌<◌, ◌≤◌, List, [], ◌∷◌, ◌++◌, drop, length, get_or, slice_get, Option, Some, Bool, true, false,
-    nat_eq, if◌then◌else◌}
+use Rattle.std.proofs.Common.{◌≡◌, ◌≢◌, ℕ, zero, suc, ◌+◌, ◌<◌, ◌≤◌, List, [], ◌∷◌, ◌++◌, drop, length, get_or, slice_get, Option, Some, Bool, true, false}
+use Rattle.std.proofs.Common.{nat_eq, if◌then◌else◌}
 use Rattle.std.proofs.Common.{refl, ap, ◌∙◌, sym, subst, arith}
 use Rattle.std.proofs.lemmas.Bool.{false≢true}
 use Rattle.std.proofs.lemmas.Bool.Decides.{nat_tests}
@@ -10,8 +10,8 @@ use Rattle.ht_feed.specs.Items.{Numbered}
 use Rattle.ht_feed.specs.Dues.{count_in}
 use Rattle.ht_feed.specs.Feeds.{GivesBlock}
 use Rattle.ht_feed.specs.Others.{OthersStay}
-use Rattle.ht_lanes.specs.Lanes.{AreBooked, AreFresh, DueOf, HaveNone, HaveFewDue, IsBooked, IsFeed, LaneJobs, OneMoreAt, SameBooks, Within, due_at, due_of,
-    lanes_view, most_jobs, whole_due, whole_jobs}
+use Rattle.ht_lanes.specs.Lanes.{AreBooked, AreFresh, DueOf, HaveNone, HaveFewDue, IsBooked, IsFeed, LaneJobs, OneMoreAt, SameBooks, Within, due_at, due_of}
+use Rattle.ht_lanes.specs.Lanes.{lanes_view, most_jobs, whole_due, whole_jobs}
 use Rattle.ht_feed.proofs.Numbering.{are_numbered, length_numbered}
 use Rattle.ht_feed.proofs.Others.{each_of, other_number, same_number}
 use Rattle.ht_lanes.proofs.Numbering.{same_jobs}
@@ -193,7 +193,7 @@ module _ {L : Type 0} (due : L → List (List JobView)) (rests : L → Bool) whe
         each_of one (λ k x. k < length lanes → rests x ≡ false → due_at k ds ≡ due x) l
         (λ few takes.
         ap (λ (bs : List (List JobView)). drop 1 bs) (sym (due_at-here d.lane d ds (same_test d.lane)) ∙ booked l d.lane low (took l takes))
-            ∙ sym (gone l takes))
+        ∙ sym (gone l takes))
         (λ k far few takes. sym (due_at-other k d ds (other_test d.lane k far)) ∙ booked l k few takes)
 
   -- the first block due is due no longer

@@ -1,6 +1,6 @@
 -- Several lanes at one moment: what gives blocks, and the blocks that are due, of which each is of one of them.
-use Rattle.std.specs.Prelude.{◌≡◌, ◌≢◌, ℕ, ◌++◌, ◌+◌, ◌-◌, ◌^◌, ◌<◌, ◌≤◌, List, [], ◌∷◌, map, length, slice_get, slice_index_or, Option, Some, None, Bool,
-    true, false, nat_eq, if◌then◌else◌}
+use Rattle.std.specs.Prelude.{◌≡◌, ◌≢◌, ℕ, ◌++◌, ◌+◌, ◌-◌, ◌^◌, ◌<◌, ◌≤◌, List, [], ◌∷◌, map, length, slice_get, slice_index_or, Option, Some, None, Bool}
+use Rattle.std.specs.Prelude.{true, false, nat_eq, if◌then◌else◌}
 use Rattle.std.specs.Prelude.{Result, IfNone, IfOk, IfSome, OnErr, OnOk}
 use Rattle.std.specs.Borrow.{MutBor}
 use Rattle.ht_metric.specs.Jobs.{JobView}

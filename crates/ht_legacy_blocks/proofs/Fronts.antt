@@ -35,7 +35,7 @@ pub start_gives : (count : ℕ) (source after : Device ℕ) → count ≤ 65535 
 start_gives count source after few taken =
     route_gives captures captures.start (captures_due count) (started_octets captures_magic 2 count) [] 0 7 source after
     (route_start (headed captured) count (record { some = omega arith; small = omega (arith, few); least = omega arith; most = few }))
-        (length_start count) taken
+    (length_start count) taken
 
 pub start_halts : (source after : Device ℕ) (fault : InFault) → StartedFails captures_magic frame_limits source after fault
     → StopsWithCause (reader_in captures captures.start 0 source) after fault

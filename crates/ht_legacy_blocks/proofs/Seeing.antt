@@ -141,7 +141,7 @@ finish_told r source after (Ok u) is none all further =
     (ended_finishes captures Over r.at source after tt all)
 finish_told r source after (Err fault) is none all further =
     halts_seen r r.course Over r.at (record { course = refl; state = ap state_of is ∙ (next_frame 0 ∙ over_is Index 0 refl); at = refl }) source after fault
-        none
+    none
     (further_halts captures Over r.at source after fault tt further)
 
 -- some of the jobs that are left are given

@@ -20,7 +20,7 @@ symbols_end (suc n) left rest =
     let less : suc n - 1 ≡ n = omega arith in
     same_as captures (symbols_due left (suc n)) (behind_head (Samples left (suc n))) (symbol_is left (suc n) (omega arith))
     (field_first captures (behind_head (Samples left (suc n))) (symbols_due left (suc n - 1)) x (Symbol (samples_from 52 x) ∷ [])
-        (length-replicate {A = ℕ} 416 0, refl)
+    (length-replicate {A = ℕ} 416 0, refl)
     (same_as captures (symbols_due left (suc n - 1)) (symbols_due left n) (ap (symbols_due left) less) (symbols_end n left rest)))
 
 samples_end : (left n : ℕ) → HasEnd captured (captures_due (left - 1)) → HasEnd captured (behind_head (Samples left n))

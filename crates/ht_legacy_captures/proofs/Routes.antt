@@ -24,8 +24,8 @@ use Rattle.ht_legacy_files.specs.HeadedFormats.{HeadState, behind_head, headed}
 use Rattle.ht_legacy_files.proofs.HeadRoutes.{route_head as route_front}
 use Rattle.ht_legacy_captures.specs.Formats.{CaptureBody, Diagonals, Samples, captured, captures, captures_due}
 use Rattle.ht_legacy_captures.specs.Formats.{good_diagonals, good_samples, numbers_from, samples_from, symbols_due}
-use Rattle.ht_legacy_captures.specs.Files.{AreCaptures, IsCapture, LegacyCapture, capture_items, capture_octets, captures_file_of, head_octets, items_of,
-    symbols_from}
+use Rattle.ht_legacy_captures.specs.Files.{AreCaptures, IsCapture, LegacyCapture, capture_items, capture_octets, captures_file_of, head_octets, items_of}
+use Rattle.ht_legacy_captures.specs.Files.{symbols_from}
 use Rattle.ht_legacy_captures.specs.Items.{LegacyHead, LegacyItem, Begins, Symbol}
 
 abbrev pub State : Type 0

@@ -41,7 +41,7 @@ told head f none = record {
 pub streamed : {R : Type 0} {means : R → List ℕ → Meaning (Item LegacyFrameHead)} {at : R → ℕ} {reader : R} {head : LegacyFrameHead} {f : LegacySoFar}
     {source source' sink start mid sink' : Device ℕ} {lent lent' : List ℕ} {ended : Result Ended RunFault} {result : Result ℕ RunFault}
     → TellsInput means at reader head source source' (books result_line (legacy_results_from f) start)
-        (books result_line (legacy_results_from f) mid) lent lent' ended
+    (books result_line (legacy_results_from f) mid) lent lent' ended
     → start ≡ sink → ((octets : List ℕ) → means reader octets ≡ seen_as legacy_items (legacy_meaning octets)) → at reader ≡ 0 → f.left ≡ 0
     → EndsLines ended mid sink' result
     → StreamsText (filter captures legacy_text legacy_lines_of) (MeansFrames captures legacy_items) source source' sink sink' result

@@ -34,8 +34,8 @@ use Rattle.ht_several.specs.Several.{AreLater, Devices, EachEnds, EachHeard, Eac
 use Rattle.ht_several.specs.LastLines.{EachFinishes, EachMayFinish, FinishesEach}
 use Rattle.ht_several.proofs.LastLines.{each_ends, each_in_part, last_later}
 use Rattle.ht_several.proofs.Ending.{heard_part}
-use Rattle.ht_many.specs.CaptureLanes.{AreNew, AreOpen, IsNew, Lane, LaneLeads, LanesLead, lane_answer, lane_due, lane_finished, lane_over, lane_rests,
-    lane_seen, reader_at, reader_means}
+use Rattle.ht_many.specs.CaptureLanes.{AreNew, AreOpen, IsNew, Lane, LaneLeads, LanesLead, lane_answer, lane_due, lane_finished, lane_over, lane_rests}
+use Rattle.ht_many.specs.CaptureLanes.{lane_seen, reader_at, reader_means}
 use Rattle.ht_many.specs.KeptFrames.{lines_left}
 use Rattle.ht_many.specs.Receiving.{ReceivesEach}
 

@@ -30,7 +30,7 @@ qam16 = (refl, refl)
 qam64 : (points Qam64 (0b000000 ∷ 0b001000 ∷ 0b011000 ∷ 0b010000 ∷ 0b110000 ∷ 0b111000 ∷ 0b101000 ∷ 0b100000 ∷ [])
     ≡ map {B = ℤ × ℤ} (λ i. (i, negsuc 6)) levels_of_64)
     × (points Qam64 (0b101000 ∷ 0b101001 ∷ 0b101011 ∷ 0b101010 ∷ 0b101110 ∷ 0b101111 ∷ 0b101101 ∷ 0b101100 ∷ [])
-        ≡ map {B = ℤ × ℤ} (λ q. (pos 5, q)) levels_of_64)
+    ≡ map {B = ℤ × ℤ} (λ q. (pos 5, q)) levels_of_64)
 unfolding point_of level_at
 qam64 = (refl, refl)
 

@@ -125,7 +125,7 @@ module _ {T : Type 0} where
       sym (ap (λ (xs : List DequeId). length xs) deques ∙ (length-map os (λ (o : OwnView T). o.deque) ∙ count)) in
       let owners = subst (λ (xs : List (OwnView T)). All (λ (o : OwnView T). o ≡ fresh_own (1024 - n) o.capacity o.deque) xs) (sym made')
       (All-from_recursion (λ (o : OwnView T). o ≡ fresh_own (1024 - n) o.capacity o.deque) (lent n (map (fresh_own 1024 capacity) ids))
-          (fresh-lent T capacity n ids)) in
+      (fresh-lent T capacity n ids)) in
       let capacities = subst (λ (xs : List (OwnView T)). All (λ (o : OwnView T). o.capacity ≡ capacity) xs) (sym made')
       (All-from_recursion (λ (o : OwnView T). o.capacity ≡ capacity) (lent n (map (fresh_own 1024 capacity) ids)) (capacities-lent T capacity n ids)) in (
         record {

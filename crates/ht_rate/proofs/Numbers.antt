@@ -1,6 +1,6 @@
 -- A rate is named by its bandwidth's code and its MCS index, both ways.
-use Rattle.std.proofs.Common.{◌≡◌, ℕ, ◌+◌, ◌*◌, ◌-◌, ◌/◌, ◌%◌, ◌<◌, ◌≤◌, zero, suc, Bool, true, ◌&&◌, nat_eq, List, [], ◌∷◌, slice_index_or, refl, sym, ap,
-    ◌∙◌, Result, Ok, lit≤, arith}
+use Rattle.std.proofs.Common.{◌≡◌, ℕ, ◌+◌, ◌*◌, ◌-◌, ◌/◌, ◌%◌, ◌<◌, ◌≤◌, zero, suc, Bool, true, ◌&&◌, nat_eq, List, [], ◌∷◌, slice_index_or, refl, sym, ap}
+use Rattle.std.proofs.Common.{◌∙◌, Result, Ok, lit≤, arith}
 use Rattle.std.proofs.lemmas.List.{get_or_default}
 use Rattle.std.proofs.lemmas.Bool.{agree_below_at, and_parts, eqb-true}
 use Rattle.std.proofs.lemmas.Bool.Decides.{nat_tests}

@@ -54,7 +54,7 @@ module _ {S I H T R : Type 0} (f : Grammar S I) (items_as : List I → List (Ite
   streams source source' sink start mid sink' lent lent' ended result told same zero from told_from last =
       let tells : TellsInput means at reader head source source' (books line results sink) (books line results mid) lent lent' ended =
       subst (λ (d : Device ℕ). TellsInput means at reader head source source' (books line results d) (books line results mid) lent lent' ended) from
-          told_from in
+      told_from in
       with_end_line (filter f text lines) (MeansFrames f items_as) source source' sink mid sink' ended result
       (ends f items_as head (booked_in line results) text lines told means at reader source source' (books line results sink)
       (books line results mid) ended sink' result same zero refl tells.tells tells.puts_later last.puts)

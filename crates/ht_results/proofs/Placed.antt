@@ -109,4 +109,4 @@ module _ {H V : Type 0} (plan : Plan H V) (head : H) (indices : HasIndices plan 
       ap (labels_after plan head jobs) (same_table (plan.symbols head) (plan.data_carriers head) (plan.width head) plan.none)
       ∙ (all_jobs jobs empty from end (λ i j low few. length-replicate (plan.width head) plan.none) at rising
       ∙ table_same (blocks empty jobs) (kept_at plan head jobs) (plan.symbols head) (plan.data_carriers head)
-          (λ i j low few. listed (job_at plan head jobs i j)))
+      (λ i j low few. listed (job_at plan head jobs i j)))

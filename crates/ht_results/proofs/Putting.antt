@@ -76,7 +76,7 @@ module _ {V : Type 0} where
       ∙ (put_within vs (f a) rest at (omega (arith, fits, size))
       ∙ (ap (λ (z : List V). z ++ rest) (ap (λ (i : ℕ). put_values (f i) at vs) (sym place) ∙ (here ∙ ap g place))
       ∙ ap (λ (z : List V). g a ++ z) (flat_same f g (a + 1) n
-          (λ i low high. others i (omega (arith, low)) (omega (arith, high)) (λ e. omega (arith, low, e))))))
+      (λ i low high. others i (omega (arith, low)) (omega (arith, high)) (λ e. omega (arith, low, e))))))
   put_block vs f g w a (suc n) (suc k) at wide below fits here others =
       let start : suc k * w + at ≡ w + (k * w + at) = omega arith in
       let place : a + suc k ≡ a + 1 + k = omega arith in
@@ -87,7 +87,7 @@ module _ {V : Type 0} where
       ∙ (put_behind vs (f a) rest w (k * w + at) (wide a (omega arith) (omega arith))
       ∙ (ap (λ (z : List V). z ++ put_values rest (k * w + at) vs) (others a (omega arith) (omega arith) (λ e. omega (arith, e)))
       ∙ ap (λ (z : List V). g a ++ z) (put_block vs f g w (a + 1) n k at (λ i low high. wide i (omega (arith, low)) (omega (arith, high)))
-          (omega (arith, below)) fits later
+      (omega (arith, below)) fits later
       (λ i low high apart. others i (omega (arith, low)) (omega (arith, high)) (λ e. apart (e ∙ place))))))
 
   -- blocks in rows
@@ -138,4 +138,4 @@ module _ {V : Type 0} where
   pub same_table : (rows columns w : ℕ) (x : V) → replicate (rows * (columns * w)) x ≡ table (λ i j. replicate w x) rows columns
   same_table rows columns w x =
       sym (repeated (columns * w) 0 rows x (λ i. flat_map (λ j. replicate w x) (range_with_len 0 columns))
-          (λ i. repeated w 0 columns x (λ j. replicate w x) (λ j. refl)))
+      (λ i. repeated w 0 columns x (λ j. replicate w x) (λ j. refl)))

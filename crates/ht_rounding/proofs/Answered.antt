@@ -1,6 +1,6 @@
 -- A job and its lane.
-use Rattle.std.proofs.Common.{◌≡◌, ℕ, zero, suc, ◌+◌, ◌^◌, ◌<◌, ◌≤◌, [], ◌∷◌, length, take, replicate, set, slice_index, slice_index_or, arith, refl, ap,
-    subst, sym, inl, inr, ◌∙◌}
+use Rattle.std.proofs.Common.{◌≡◌, ℕ, zero, suc, ◌+◌, ◌^◌, ◌<◌, ◌≤◌, [], ◌∷◌, length, take, replicate, set, slice_index, slice_index_or, arith, refl, ap}
+use Rattle.std.proofs.Common.{subst, sym, inl, inr, ◌∙◌}
 use Rattle.std.proofs.lemmas.List.{get_or-set_same, get_or-set_other, length-set}
 use Rattle.std.proofs.lemmas.Bool.{cases_lt}
 use Rattle.ht_metric.specs.declared.found.Found.{Found}
@@ -58,7 +58,7 @@ one-more jobs founds k job found eight lt before e is = (
     | inr later ↦
         let same : j ≡ k = omega (arith, less, later) in
         ap (λ (m : ℕ). slice_index_or (set founds k found) m no_found) same ∙ get_or-set_same founds k found no_found (omega (arith, before.0, lt)) ∙ e
-            ∙ ap near is
+        ∙ ap near is
         ∙ ap (λ (m : ℕ). near (slice_index_or jobs m no_job)) (sym same)
   ],
 )
@@ -77,7 +77,7 @@ pub plain-job : (jobs : List JobView) (k : ℕ) (job : JobView) (i q : Levels) (
 plain-job jobs k job i q n found is grid valid small answers =
     let plain : IsPlain i q n job = record { valid = valid; grid = grid; small = small } in
     subst (λ (j : JobView). Finds (points_at n found k) (slice_index found.first.rho k) j) (sym is)
-        (answers (subst (λ (j : JobView). IsPlain i q n j) is plain))
+    (answers (subst (λ (j : JobView). IsPlain i q n j) is plain))
 
 -- one more distance
 pub one-below : (founds : List Found) (k : ℕ) (found : Found) → length founds ≡ 8 → k < 8

@@ -1,6 +1,6 @@
 -- A target folded at 0: twice as many levels as behind the fold.
-use Rattle.std.proofs.Common.{◌≡◌, ℕ, zero, suc, ◌+◌, ◌-◌, ◌*◌, ◌%◌, ◌/◌, ◌^◌, ◌<◌, ◌≤◌, ℤ, pos, ◌+ℤ◌, ◌-ℤ◌, ◌*ℤ◌, Bool, true, false, unsigned_abs, arith,
-    refl, ap, sym, ◌∙◌, subst}
+use Rattle.std.proofs.Common.{◌≡◌, ℕ, zero, suc, ◌+◌, ◌-◌, ◌*◌, ◌%◌, ◌/◌, ◌^◌, ◌<◌, ◌≤◌, ℤ, pos, ◌+ℤ◌, ◌-ℤ◌, ◌*ℤ◌, Bool, true, false, unsigned_abs, arith}
+use Rattle.std.proofs.Common.{refl, ap, sym, ◌∙◌, subst}
 use Rattle.std.specs.Prelude.{if◌then◌else◌}
 use Rattle.std.specs.Int.{cast_signed, int_wrap, w32}
 use Rattle.std.proofs.lemmas.Bool.Decides.{nat_tests}
@@ -119,7 +119,7 @@ raised-is : (half y : ℕ) → half ≤ 4 → y < 2 ^ 32 → unsigned_abs (cast_
 raised-is half y few lt small =
     let same : cast_signed w32 half ≡ pos half = signed-small half (omega arith) in
     wrapping_add-bits w32 half y (omega arith) lt ∙ ap (λ (z : ℤ). int_wrap w32 (z +ℤ cast_signed w32 y)) same
-        ∙ int_wrap_fits w32 (pos half +ℤ cast_signed w32 y) (omega (arith, ints, small, few))
+    ∙ int_wrap_fits w32 (pos half +ℤ cast_signed w32 y) (omega (arith, ints, small, few))
   where
     signed-small : (n : ℕ) → n < 2 ^ 31 → cast_signed w32 n ≡ pos n
     signed-small n lt = grind (arith, ints, nat_tests)

@@ -54,7 +54,7 @@ module _ (a b c d : RowLanes) (u v w x : Parts) (k : ℕ) where
 
   pub split_four : (rows : List Row) → length rows ≡ 4 → In rows
       → (r : Row) × (s : Row) × (t : Row) × (o : Row) × (rows ≡ r ∷ s ∷ t ∷ o ∷ []) × IsRowIn a u k 3 r × IsRowIn b v k 2 s × IsRowIn c w k 1 t
-          × IsRowIn d x k 0 o
+      × IsRowIn d x k 0 o
   split_four (r ∷ s ∷ t ∷ o ∷ []) e h = (r, s, t, o, refl, h.0, h.1.0, h.1.1.0, h.1.1.1.0)
   split_four [] e h = absurd (omega (arith, e))
   split_four (r ∷ []) e h = absurd (omega (arith, e))
@@ -78,7 +78,7 @@ module _ (i q : Levels) (job : JobView) (valid : IsJob job) where
       record {
         near = settled-found job _ most n (n + s) (p ∷ []) valid (coordinates (r ∷ []) 1 e f)
             (settled-row i q r.diagonal r.sample [] [] [] most 0 xi xq s n (levels_of (p ∷ []), n) (n + s) sure (settled-none (levels_of (p ∷ [])) n s))
-                (omega (arith, some));
+            (omega (arith, some));
         few = (point-few i q _ _ _ _ _ _ _ _ sure, tt);
       }
 
@@ -96,7 +96,7 @@ module _ (i q : Levels) (job : JobView) (valid : IsJob job) where
         near = settled-found job _ most n1 off ps valid (coordinates (r1 ∷ r2 ∷ []) 2 e f)
             (settled-row i q r2.diagonal r2.sample [] [] _ most 0 i2 q2 s2 n2 w off sure2
             (settled-row i q r1.diagonal r1.sample (tap_1 r1 ∷ []) (p2 ∷ []) [] s2 n2 i1 q1 s1 n1 w off sure1 (settled-none (levels_of ps) n1 s1)))
-                (omega (arith, some));
+            (omega (arith, some));
         few = (point-few i q _ _ _ _ _ _ _ _ sure1, (point-few i q _ _ _ _ _ _ _ _ sure2, tt));
       }
 
@@ -117,7 +117,7 @@ module _ (i q : Levels) (job : JobView) (valid : IsJob job) where
             (settled-row i q r3.diagonal r3.sample [] [] _ most 0 i3 q3 s3 n3 w off sure3
             (settled-row i q r2.diagonal r2.sample (tap_1 r2 ∷ []) (p3 ∷ []) _ s3 n3 i2 q2 s2 n2 w off sure2
             (settled-row i q r1.diagonal r1.sample (tap_1 r1 ∷ tap_2 r1 ∷ []) (p2 ∷ p3 ∷ []) [] s2 n2 i1 q1 s1 n1 w off sure1
-                (settled-none (levels_of ps) n1 s1)))) (omega (arith, some));
+            (settled-none (levels_of ps) n1 s1)))) (omega (arith, some));
         few = (point-few i q _ _ _ _ _ _ _ _ sure1, (point-few i q _ _ _ _ _ _ _ _ sure2, (point-few i q _ _ _ _ _ _ _ _ sure3, tt)));
       }
 
@@ -143,8 +143,10 @@ module _ (i q : Levels) (job : JobView) (valid : IsJob job) where
             (settled-row i q r3.diagonal r3.sample (tap_1 r3 ∷ []) (p4 ∷ []) _ s4 n4 i3 q3 s3 n3 w off sure3
             (settled-row i q r2.diagonal r2.sample (tap_1 r2 ∷ tap_2 r2 ∷ []) (p3 ∷ p4 ∷ []) _ s3 n3 i2 q2 s2 n2 w off sure2
             (settled-row i q r1.diagonal r1.sample (tap_1 r1 ∷ tap_2 r1 ∷ tap_3 r1 ∷ []) (p2 ∷ p3 ∷ p4 ∷ []) [] s2 n2 i1 q1 s1 n1 w off sure1
-                (settled-none (levels_of ps) n1 s1)))))
+            (settled-none (levels_of ps) n1 s1)))))
             (omega (arith, some));
-        few = (point-few i q _ _ _ _ _ _ _ _ sure1,
-            (point-few i q _ _ _ _ _ _ _ _ sure2, (point-few i q _ _ _ _ _ _ _ _ sure3, (point-few i q _ _ _ _ _ _ _ _ sure4, tt))));
+        few = (
+          point-few i q _ _ _ _ _ _ _ _ sure1,
+          (point-few i q _ _ _ _ _ _ _ _ sure2, (point-few i q _ _ _ _ _ _ _ _ sure3, (point-few i q _ _ _ _ _ _ _ _ sure4, tt))),
+        );
       }

@@ -26,7 +26,7 @@ entry a b r t e p q = subst (λ (u : Tap). IsEntry a b u) e record { re = p.is; 
 
 pub row-loaded : (lanes : RowLanes) (y : Parts) (k number : ℕ) (rows : List Row)
     → (number ≤ length rows → (slice_index_or rows (number - 1) no_row).diagonal < 2 ^ 14
-        → slice_index lanes.diagonal k ≡ (slice_index_or rows (number - 1) no_row).diagonal)
+    → slice_index lanes.diagonal k ≡ (slice_index_or rows (number - 1) no_row).diagonal)
     → IsPartOf (EntryRe 0) number rows (slice_index lanes.next.re k) → IsPartOf (EntryIm 0) number rows (slice_index lanes.next.im k)
     → IsPartOf (EntryRe 1) number rows (slice_index lanes.second.re k) → IsPartOf (EntryIm 1) number rows (slice_index lanes.second.im k)
     → IsPartOf (EntryRe 2) number rows (slice_index lanes.third.re k) → IsPartOf (EntryIm 2) number rows (slice_index lanes.third.im k)
@@ -52,9 +52,10 @@ rows-loaded a b c d u v w x k (e ∷ []) few is_small p q r s = (p (omega arith)
 rows-loaded a b c d u v w x k (e ∷ f ∷ []) few is_small p q r s = (p (omega arith) (is_small 0 (omega arith)), (q (omega arith) (is_small 1 (omega arith)), tt))
 rows-loaded a b c d u v w x k (e ∷ f ∷ g ∷ []) few is_small p q r s =
     (p (omega arith) (is_small 0 (omega arith)), (q (omega arith) (is_small 1 (omega arith)), (r (omega arith) (is_small 2 (omega arith)), tt)))
-rows-loaded a b c d u v w x k (e ∷ f ∷ g ∷ h ∷ []) few is_small p q r s =
-    (p (omega arith) (is_small 0 (omega arith)),
-        (q (omega arith) (is_small 1 (omega arith)), (r (omega arith) (is_small 2 (omega arith)), (s (omega arith) (is_small 3 (omega arith)), tt))))
+rows-loaded a b c d u v w x k (e ∷ f ∷ g ∷ h ∷ []) few is_small p q r s = (
+  p (omega arith) (is_small 0 (omega arith)),
+  (q (omega arith) (is_small 1 (omega arith)), (r (omega arith) (is_small 2 (omega arith)), (s (omega arith) (is_small 3 (omega arith)), tt))),
+)
 rows-loaded a b c d u v w x k (e ∷ f ∷ g ∷ h ∷ o ∷ rows) few is_small p q r s = absurd (omega (arith, few))
 
 -- a diagonal that was cut

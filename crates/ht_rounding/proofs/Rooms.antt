@@ -1,6 +1,6 @@
 -- What makes a proposal certain: the room that its lane leaves.
-use Rattle.std.proofs.Common.{◌≡◌, ◌⊎◌, ℕ, zero, suc, ◌+◌, ◌-◌, ◌*◌, ◌^◌, ◌<◌, ◌≤◌, ℤ, pos, ◌+ℤ◌, ◌-ℤ◌, Bool, true, false, unsigned_abs, arith, inl, inr,
-    ap, sym, ◌∙◌, subst, refl}
+use Rattle.std.proofs.Common.{◌≡◌, ◌⊎◌, ℕ, zero, suc, ◌+◌, ◌-◌, ◌*◌, ◌^◌, ◌<◌, ◌≤◌, ℤ, pos, ◌+ℤ◌, ◌-ℤ◌, Bool, true, false, unsigned_abs, arith, inl, inr}
+use Rattle.std.proofs.Common.{ap, sym, ◌∙◌, subst, refl}
 use Rattle.std.specs.Prelude.{nat_lt, if◌then◌else◌}
 use Rattle.std.specs.Int.{cast_signed, w32}
 use Rattle.std.proofs.lemmas.Bool.{cases_lt}
@@ -72,7 +72,7 @@ several l t d x g h room small p eh er some z within held =
     let near : g < d = omega (arith, is, some) in
     let same : h ≡ g = eh ∙ lesser-is g d (omega arith) in
     subst (λ (n : ℕ). IsSure l d x h (4 * d * n) z) (sym is)
-        (subst (λ (n : ℕ). IsSure l d x n (4 * d * (d - g)) z) (sym same) (sure l t d x g z small p near within held))
+    (subst (λ (n : ℕ). IsSure l d x n (4 * d * (d - g)) z) (sym same) (sure l t d x g z small p near within held))
 
 -- a margin is positive where there is room
 positive : (d room : ℕ) → 0 < d → 0 < room → 0 < 4 * d * room

@@ -66,13 +66,13 @@ settled-none s p spare = record { rounds = refl; others = others_none s p (p + s
 chosen : (i q : Levels) (d : ℕ) (y : Sample) (taps : List Tap) (ps : List Point) (spare p x_i x_q after n : ℕ)
     → IsRowSure i q d spare p x_i x_q after n (left_by (received y) taps ps)
     → AreChosen (real_q q d y taps) (real_i i d y taps) (levels_of ps) p n after after (cast_signed w32 x_q) (cast_signed w32 x_i)
-        (left_by (received y) taps ps).re
+    (left_by (received y) taps ps).re
 chosen i q d y taps ps spare p x_i x_q after n sure =
     let z = left_by (received y) taps ps in
     let t_q = left-im (received y) taps ps in
     let t_i = left-re (received y) taps ps in
     let g_q : gap (target (real_q q d y taps) (levels_of ps)) d (cast_signed w32 x_q) ≡ sure.gap_q = ap (λ (t : ℤ). gap t d (cast_signed w32 x_q)) (sym t_q)
-        ∙ sure.sure_q.gap in
+    ∙ sure.sure_q.gap in
     let g_i = sure.sure_i.gap in
     record {
       sum = omega (arith, sure.sum, ap (λ (g : ℕ). g * g) g_q, ap (λ (g : ℕ). g * g) g_i);

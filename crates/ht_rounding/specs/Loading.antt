@@ -57,7 +57,7 @@ HaveSmall rows = (j : ℕ) → j < length rows → (slice_index_or rows j no_row
 abbrev pub HaveDiagonals : ℕ → List JobView → List ℕ → Type 0
 HaveDiagonals number jobs lanes = (k : ℕ) → k < 8 → (let rows = (slice_index_or jobs k no_job).system in
     number ≤ length rows → (slice_index_or rows (number - 1) no_row).diagonal < 2 ^ 14
-        → slice_index lanes k ≡ (slice_index_or rows (number - 1) no_row).diagonal)
+    → slice_index lanes k ≡ (slice_index_or rows (number - 1) no_row).diagonal)
 
 -- what was found where there is nothing
 abbrev pub no_found : Found

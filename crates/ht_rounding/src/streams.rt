@@ -146,7 +146,7 @@ pub fn detect_four(i: Levels, q: Levels, channel: &Channel, samples: &Samples) -
     requires { IsSmall channel.now }
     ensures { (k : ℕ) (job : JobView) → k < 8 → 0 < slice_index result.first.spare k → IsInLane i q channel.now samples.now k 4 job
         → Finds (point_at result.first k ∷ point_at result.second k ∷ point_at result.third k ∷ point_at result.fourth k ∷ [])
-            (slice_index result.first.rho k) job }
+        (slice_index result.first.rho k) job }
 {
     let fourth = last_row(i, q, samples.fourth, channel.fourth.diagonal);
     let target = without(samples.third, channel.third.next, fourth);

@@ -71,5 +71,5 @@ pub gathered_told : {P : Type 0} (booked : FrameResult → List P) (whole : List
 gathered_told booked whole f result source source' book book' none idle told =
     frames_told booked f result source source' book book' idle
     (subst (λ (fs : List FrameSoFar). MatchResult result
-        (TellsTo (pieces_of_octets (booked_behind result_of booked fs (results_in f))) source source' book book')
+    (TellsTo (pieces_of_octets (booked_behind result_of booked fs (results_in f))) source source' book book')
     (StopsBy (pieces_of_octets (booked_behind result_of booked fs (results_in f))) source source' book book')) none told)

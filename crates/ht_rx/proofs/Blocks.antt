@@ -113,7 +113,7 @@ pub comes_to : {R P : Type 0} (means : R → List ℕ → Meaning (Item FrameHea
     → ((octets : List ℕ) → means reader octets ≡ mapped (capture_of octets)) → at reader ≡ 0
     → Comes means at reader head source source' a b result
     → MatchResult result (TellsTo (pieces_of_octets a.pieces) source source' a.device b.device)
-        (StopsBy (pieces_of_octets a.pieces) source source' a.device b.device)
+    (StopsBy (pieces_of_octets a.pieces) source source' a.device b.device)
 comes_to means at reader head source source' a b result same zero came =
     told (pieces_of_octets a.pieces) source source' a.device b.device result
     (from_front captures items_of means at reader head (pieces_of_octets a.pieces) source source' a b result same zero

@@ -1,6 +1,6 @@
 -- Eight jobs of a block that are found together.
-use Rattle.std.proofs.Common.{◌≡◌, ℕ, zero, suc, ◌+◌, ◌<◌, List, [], ◌∷◌, ◌++◌, Option, Some, IfSome, length, length-append, take, get_or, slice_get,
-    slice_index_or, arith, ap, subst, sym, ◌∙◌}
+use Rattle.std.proofs.Common.{◌≡◌, ℕ, zero, suc, ◌+◌, ◌<◌, List, [], ◌∷◌, ◌++◌, Option, Some, IfSome, length, length-append, take, get_or, slice_get}
+use Rattle.std.proofs.Common.{slice_index_or, arith, ap, subst, sym, ◌∙◌}
 use Rattle.ht_metric.specs.Jobs.{JobView, near}
 use Rattle.ht_metric.specs.declared.found.Found.{Found}
 use Rattle.ht_capture.specs.declared.items.FrameHead.{FrameHead}
@@ -20,7 +20,7 @@ one_found jobs at k n founds job is here found =
 
 pub eight_found : (jobs : List JobView) (at : ℕ) (founds : List Found) (a b c d e f g h : JobView)
     → Some a ≡ slice_get jobs at → Some b ≡ slice_get jobs (at + 1) → Some c ≡ slice_get jobs (at + 2) → Some d ≡ slice_get jobs (at + 3)
-        → Some e ≡ slice_get jobs (at + 4) → Some f ≡ slice_get jobs (at + 5) → Some g ≡ slice_get jobs (at + 6) → Some h ≡ slice_get jobs (at + 7)
+    → Some e ≡ slice_get jobs (at + 4) → Some f ≡ slice_get jobs (at + 5) → Some g ≡ slice_get jobs (at + 6) → Some h ≡ slice_get jobs (at + 7)
     → AreNear founds (a ∷ b ∷ c ∷ d ∷ e ∷ f ∷ g ∷ h ∷ []) → AreFoundFrom jobs at founds
 eight_found jobs at founds a b c d e f g h pa pb pc pd pe pf pg ph are zero lt = one_found jobs at 0 at founds a (omega arith) pa (are 0 lt)
 eight_found jobs at founds a b c d e f g h pa pb pc pd pe pf pg ph are (suc zero) lt = one_found jobs at 1 (at + 1) founds b (omega arith) pb (are 1 lt)
@@ -50,7 +50,7 @@ pub first_more : (jobs : List JobView) (n : ℕ) (job : JobView) (head own own' 
     → HasFirst jobs (n + 1) head own' c' d' p' ps' ls'
 first_more jobs n job head own own' c d p c' d' p' ps ls ps' ls' is has kept long added =
     let was : IsTally label_plan own (take n jobs) c d p ps ls = subst (λ (h : FrameHead). IsTally label_plan h (take n jobs) c d p ps ls)
-        (sym has.same) has.is in
+    (sym has.same) has.is in
     let now : IsTally label_plan own (take n jobs ++ job ∷ []) c' d' p' ps' ls' = added (take n jobs) was in
     let one = length-append (take n jobs) (job ∷ []) in
     let before = has.is.count in

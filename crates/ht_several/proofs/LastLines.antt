@@ -178,7 +178,7 @@ module _ {S K : Type 0} (source : S → Device ℕ) (sink : K → Device ℕ) (a
   steady-within ends finish k t few else =
       finish.writes k t else
       ∙ heard.writes k t (λ is. else (failed_ends (answer_at answers k) (sink_at sink b k t) (sink (get_or after k t)) (end_at ends k) is
-          (finish.each k few t)))
+      (finish.each k few t)))
 
   -- beyond the captures there is no sink
   steady-past : KeepSinks sink b.sinks after → length a.sinks ≡ length a.sources → (k : ℕ) (t : K) → length answers ≤ k

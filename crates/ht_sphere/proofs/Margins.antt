@@ -132,7 +132,7 @@ margin_at_one l t d x m ladder e f y h =
     let one = subst (bests.Among walk) (sym e) (first_among walk (walk_some l (gap t d) ladder)) in
     let other = has_sorted l (gap t d) y h in
     let least : gap t d x ≤ gap t d y = subst (λ (z : ℤ). gap t d z ≤ gap t d y) (sym e)
-        (least_first (gap t d) walk y (ascending (gap t d) (levels l)) other) in
+    (least_first (gap t d) walk y (ascending (gap t d) (levels l)) other) in
     let a = in_lowest l l.size x (in_order (gap t d) (levels l) x one) in
     let b = in_lowest l l.size y (in_order (gap t d) (levels l) y other) in
     elim (two_apart l.size a.0 b.0 x y a.1 b.1) [

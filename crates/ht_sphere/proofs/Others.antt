@@ -40,7 +40,7 @@ nearest_at : (i : Real) (s : List ℤ) (t : ℤ) (y u : ℤ) → t ≡ target i 
 nearest_at i s t y u e f h =
     subst (λ (z : ℤ). cost_at i t z ≤ cost i s u) (sym f)
     (subst (λ (r : ℤ). bests.Among (order_at i r) u → cost_at i t (first_of i.ladder t i.diagonal) ≤ cost_at i r u) e
-        (least_first (cost_at i t) (order_at i t) u (sorted i t)) h)
+    (least_first (cost_at i t) (order_at i t) u (sorted i t)) h)
 
 pub others_none : (s : List ℤ) (p off : ℕ) → OthersFrom [] s p (s, p) off
 others_none s p off v h = elim h [ inl e ↦ inl e | inr none ↦ absurd none ]
@@ -84,7 +84,7 @@ others_two q i rest s p n a b off x y t w both far_q far_i others v h =
     elim (both.margin_q z (tried_has q s z at_q.1)) [
       | inl e ↦
           let margin : IsMargin i.ladder (target i (x ∷ s)) i.diagonal y b = subst (λ (r : ℤ). IsMargin i.ladder r i.diagonal y b)
-              (both.same x) both.margin_i in
+          (both.same x) both.margin_i in
           let costs : cost_at i t y ≡ cost i (x ∷ s) y = ap (λ (r : ℤ). cost_at i r y) (both.same x) in
           others_more i rest (x ∷ s) (p + cost q s x) n b off y w margin (omega (arith, both.sum, costs)) far_i others v
           (subst (λ (r : ℤ). Among (leaves (i ∷ rest) (r ∷ s) (p + cost q s r)) v) e at_q.2)

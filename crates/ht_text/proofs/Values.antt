@@ -1,8 +1,8 @@
 -- Worked lines, by computation.
 use Rattle.std.proofs.Common.{◌≡◌, ◌++◌, [], ◌∷◌, Some, None, pos, negsuc, refl, codes}
 use Rattle.std.specs.Fmt.{digits}
-use Rattle.ht_text.specs.Lines.{capture_text, job_text, frame_text, outcome_text, soft_text, sums_text, end_text, refused_text, usage_text, demo_text,
-    line_feed}
+use Rattle.ht_text.specs.Lines.{capture_text, job_text, frame_text, outcome_text, soft_text, sums_text, end_text, refused_text, usage_text, demo_text}
+use Rattle.ht_text.specs.Lines.{line_feed}
 
 -- one stream in BPSK: I is -1 and Q is 0
 first_job : job_text 0 0 0 100 (negsuc 0 ∷ pos 0 ∷ []) ≡ codes "job 0 0 0 100 -1 0" ++ line_feed

@@ -56,5 +56,5 @@ stretched rows from to order within =
     let same = ap (λ (at : ℕ). least_from (steps_at rows at) 0) there in
     let low : (s : ℕ) → s < 64 → least_from (steps_at rows to) 0 ≤ least_from (steps_at rows (from + n)) s + 12 =
     λ s lt. let at = ap (λ (k : ℕ). least_from (steps_at rows k) s) there in omega
-        (arith, at, spread 2 (steps_at rows to) 0 s (light-steps rows to) (omega arith) lt) in
+    (arith, at, spread 2 (steps_at rows to) 0 s (light-steps rows to) (omega arith) lt) in
     (omega (arith, up, same), floor rows (least_from (steps_at rows to) 0) n from (omega arith) low 0 (omega arith))

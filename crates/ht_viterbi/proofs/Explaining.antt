@@ -5,8 +5,8 @@ use Rattle.std.specs.Prelude.{IsTrue, ◌==◌}
 use Rattle.std.specs.List.{list_all}
 use Rattle.std.proofs.Math.Nat.{le-div_iff_mul-le, suc-mul}
 use Rattle.std.proofs.lemmas.Bool.{and_from, not_from_false, eq-eqb}
-use Rattle.std.proofs.lemmas.List.{append_assoc, map-append, reverse-append, length-append, length-drop, append-nil, get_or-drop, get_or-reverse,
-    get_or_past, take_all}
+use Rattle.std.proofs.lemmas.List.{append_assoc, map-append, reverse-append, length-append, length-drop, append-nil, get_or-drop, get_or-reverse}
+use Rattle.std.proofs.lemmas.List.{get_or_past, take_all}
 use Rattle.ht_rate.specs.declared.kinds.Pattern.{Pattern}
 use Rattle.ht_rate.specs.declared.kinds.Pattern.TheVariants.{Half, TwoThirds, ThreeQuarters, FiveSixths}
 use Rattle.ht_conv.specs.declared.puncture.Kept.{Kept}
@@ -121,7 +121,7 @@ explained-ends pattern received u steps start state zero-is many was =
     ∙ (sym back
     ∙ (state_bit
     ∙ (ap (λ (n : ℕ). get_or (history_of n) (5 - k) false) zero-is
-        ∙ (sym (agree-start (5 - k) (omega arith)) ∙ get_or_past [] (5 - k) false (omega arith)))))) in
+    ∙ (sym (agree-start (5 - k) (omega arith)) ∙ get_or_past [] (5 - k) false (omega arith)))))) in
     and_from (length u == steps) (list_all not (drop (steps - 6) u)) (eq-eqb (length u) steps count) (all-not (drop (steps - 6) u) zeros)
 
 -- all places are explained where all steps are

@@ -61,7 +61,7 @@ free true = refl
 one-step : (kept : Kept) (places : List BitCosts) (start : ℕ) (a b : Bool) (rest : List Bool) → start + kept_count kept ≤ length places
     → total_cost bit_cost (drop start places) (kept_bits kept a b ++ rest)
     ≡ bit_cost (pair_of free_bit kept places start).0 a + bit_cost (pair_of free_bit kept places start).1 b + total_cost bit_cost
-        (drop (start + kept_count kept) places) rest
+    (drop (start + kept_count kept) places) rest
 one-step Both places start a b rest fits =
     let first : drop start places ≡ get_or places start free_bit ∷ drop (suc start) places = drop-cons places start free_bit (omega arith) in
     let second : drop (suc start) places ≡ get_or places (suc start) free_bit ∷ drop (suc (suc start)) places =
@@ -79,13 +79,13 @@ one-step A places start a b rest fits =
     let first : drop start places ≡ get_or places start free_bit ∷ drop (suc start) places = drop-cons places start free_bit (omega arith) in
     let last : suc start ≡ start + 1 = omega arith in
     let tail : total_cost bit_cost (drop (suc start) places) rest
-        ≡ total_cost bit_cost (drop (start + 1) places) rest = ap (λ (n : ℕ). total_cost bit_cost (drop n places) rest) last in
+    ≡ total_cost bit_cost (drop (start + 1) places) rest = ap (λ (n : ℕ). total_cost bit_cost (drop n places) rest) last in
     ap (λ (z : List BitCosts). total_cost bit_cost z (a ∷ rest)) first ∙ omega (arith, tail, free b)
 one-step B places start a b rest fits =
     let first : drop start places ≡ get_or places start free_bit ∷ drop (suc start) places = drop-cons places start free_bit (omega arith) in
     let last : suc start ≡ start + 1 = omega arith in
     let tail : total_cost bit_cost (drop (suc start) places) rest
-        ≡ total_cost bit_cost (drop (start + 1) places) rest = ap (λ (n : ℕ). total_cost bit_cost (drop n places) rest) last in
+    ≡ total_cost bit_cost (drop (start + 1) places) rest = ap (λ (n : ℕ). total_cost bit_cost (drop n places) rest) last in
     ap (λ (z : List BitCosts). total_cost bit_cost z (b ∷ rest)) first ∙ omega (arith, tail, free a)
 
 pub sent-grows : (pattern : Pattern) (count step : ℕ) → sent_count pattern step ≤ sent_count pattern (step + count)

@@ -59,7 +59,7 @@ spread-alike most (suc n) (pair ∷ pairs) s t light same =
     let here : least_from (pair ∷ pairs) s ≤ way (least_from pairs) pair s bit =
     lesser_least free bit (way (least_from pairs) pair s) (λ none. not_chosen free _ _ none) in
     let rest : least_from pairs (moved s bit) ≤ steps_cost most n + least_from pairs (moved t bit) = spread-alike most n pairs (moved s bit)
-        (moved t bit) light.1 (same bit) in
+    (moved t bit) light.1 (same bit) in
     omega (arith, there, here, rest, light.0 s bit)
 
 pub spread : (most : ℕ) (pairs : List StepCosts) (s t : ℕ) → AreLight most pairs → s < 64 → t < 64 → least_from pairs s ≤ 6 * most + least_from pairs t

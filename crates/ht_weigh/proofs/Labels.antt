@@ -1,6 +1,6 @@
 -- What labels tell of the halves, bit by bit and stream by stream.
-use Rattle.std.proofs.Common.{◌≡◌, ◌⊎◌, ℕ, zero, suc, ◌+◌, ◌-◌, ◌*◌, ◌<◌, ◌≤◌, ℤ, List, [], ◌∷◌, length, drop, get_or, inl, inr, arith, refl, ap, sym, ◌∙◌,
-    subst}
+use Rattle.std.proofs.Common.{◌≡◌, ◌⊎◌, ℕ, zero, suc, ◌+◌, ◌-◌, ◌*◌, ◌<◌, ◌≤◌, ℤ, List, [], ◌∷◌, length, drop, get_or, inl, inr, arith, refl, ap, sym, ◌∙◌}
+use Rattle.std.proofs.Common.{subst}
 use Rattle.std.proofs.Common.{Bool, true, false, not, true≢false, Some, None, pos}
 use Rattle.std.specs.Prelude.{◌==◌}
 use Rattle.std.specs.Int.{bit_at}
@@ -169,7 +169,7 @@ point_is xs k p some lt is_i is_q =
     let odd : 2 + (2 * (k - 1) + 1) ≡ 2 * k + 1 = omega arith in
     let both : ℤ → ℤ → Point = λ a b. record { i = a; q = b } in
     let at_i : p.i ≡ get_or (drop 2 xs) (2 * (k - 1)) (pos 0) = is_i
-        ∙ sym (get_or-drop 2 xs (2 * (k - 1)) (pos 0) ∙ ap (λ (i : ℕ). get_or xs i (pos 0)) even) in
+    ∙ sym (get_or-drop 2 xs (2 * (k - 1)) (pos 0) ∙ ap (λ (i : ℕ). get_or xs i (pos 0)) even) in
     let at_q : p.q ≡ get_or (drop 2 xs) (2 * (k - 1) + 1) (pos 0) =
     is_q ∙ sym (get_or-drop 2 xs (2 * (k - 1) + 1) (pos 0) ∙ ap (λ (i : ℕ). get_or xs i (pos 0)) odd) in
     ap (λ (a : ℤ). both a p.q) at_i ∙ ap (both (get_or (drop 2 xs) (2 * (k - 1)) (pos 0))) at_q

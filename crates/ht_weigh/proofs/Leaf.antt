@@ -1,6 +1,6 @@
 -- The vectors with the first stream open, in closed form: the nearest levels of its halves are the nearest vectors with a bit.
-use Rattle.std.proofs.Common.{◌≡◌, ◌⊎◌, ℕ, zero, suc, ◌+◌, ◌-◌, ◌*◌, ◌^◌, ◌<◌, ◌≤◌, ℤ, pos, ◌-ℤ◌, ◌*ℤ◌, List, [], ◌∷◌, length, get_or, inl, inr, arith,
-    refl, ap, sym, ◌∙◌, subst}
+use Rattle.std.proofs.Common.{◌≡◌, ◌⊎◌, ℕ, zero, suc, ◌+◌, ◌-◌, ◌*◌, ◌^◌, ◌<◌, ◌≤◌, ℤ, pos, ◌-ℤ◌, ◌*ℤ◌, List, [], ◌∷◌, length, get_or, inl, inr, arith}
+use Rattle.std.proofs.Common.{refl, ap, sym, ◌∙◌, subst}
 use Rattle.std.proofs.Common.{Bool, true, false, true≢false, ◌&&◌, ◌||◌, nat_eq, nat_lt, not, None, Some, is_some}
 use Rattle.std.proofs.lemmas.Bool.{agree_below, agree_below_at, and_from, and_parts, or_cases, cases_lt, eqb-true, ltb-true}
 use Rattle.std.proofs.Common.{replicate}

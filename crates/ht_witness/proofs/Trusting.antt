@@ -78,5 +78,5 @@ checked_near job certificate is checked =
     (path_leaf all [] 0 (levels_of x, distance_of rows x) (way_to rows grid x is.streams checked.within)) in
     let rounded = path_leaf all [] 0 (rounding all [] 0) (rounding_path all [] 0 (good_rows rows grid is.grid.ladders)) in
     let best : IsBestOf (rounding all [] 0) (leaves all [] 0) claim = record
-        { one = inr there; old_is_not = none (rounding all [] 0) rounded; none_is = none } in
+    { one = inr there; old_is_not = none (rounding all [] 0) rounded; none_is = none } in
     answered job all (levels_of x) certificate.distance x is refl best (sym (points_back x))

@@ -5,8 +5,8 @@ use Rattle.std.specs.Prelude.{bytes_eq, nat_le, if◌then◌else◌}
 use Rattle.ht_words.specs.declared.asked.Asked.{Asked}
 use Rattle.ht_words.specs.declared.setting.Setting.TheVariants.{Workers, Window, Seed, Noise, Frames, Mcs, Bandwidth, Length}
 use Rattle.ht_words.specs.Settings.{admits, is_within}
-use Rattle.ht_words.specs.Words.{IsForWorkers, IsWithinRanges, Row, are_accepted, asked_by, asked_of, commands, demo_in, for_demo, for_workers, is_plain,
-    only_if, value_of}
+use Rattle.ht_words.specs.Words.{IsForWorkers, IsWithinRanges, Row, are_accepted, asked_by, asked_of, commands, demo_in, for_demo, for_workers, is_plain}
+use Rattle.ht_words.specs.Words.{only_if, value_of}
 
 within : (least most value : ℕ) → is_within least most value ≡ true → (least ≤ value) × (value ≤ most)
 within least most value inside =

@@ -42,7 +42,7 @@ pub returns-in-Some-Soft : goal.returns-in-Some-Soft
 returns-in-Some-Soft g c =
     let asked = c.in-Some-Soft.field-0-is in
     let run = streams (filter captures soft_rx_text soft_lines_of) soft_ends _ _ _ HasFrames c.receive_soft_alone-received.result _ _
-        c.settle-in-Some-Soft.result
+    c.settle-in-Some-Soft.result
     c.receive_soft_alone-received.ensures.streams c.receive_soft_alone-received.ensures.puts_later c.settle-in-Some-Soft.ensures.settles
     in search rules
 
@@ -50,7 +50,7 @@ pub returns-in-Some-LegacyRx : goal.returns-in-Some-LegacyRx
 returns-in-Some-LegacyRx g c =
     let asked = c.in-Some-LegacyRx.field-0-is in
     let run = streams (filter legacy_captures legacy_text legacy_lines_of) legacy_ends _ _ _
-        (MeansFrames legacy_captures legacy_items) c.legacy_receive_alone-received.result _ _ c.settle-in-Some-LegacyRx.result
+    (MeansFrames legacy_captures legacy_items) c.legacy_receive_alone-received.result _ _ c.settle-in-Some-LegacyRx.result
     c.legacy_receive_alone-received.ensures.streams c.legacy_receive_alone-received.ensures.puts_later
     c.settle-in-Some-LegacyRx.ensures.settles in search rules
 

@@ -24,7 +24,7 @@ pub returns : goal.returns
 returns c =
     claim_made c.args.number c.args.modulation c.args.streams c.args.octets.now c.triangle_width-samples_at.result _ _ _
     c.triangle-triangle.result c.samples-samples.result c.constellation.result c.new.result c.new-into.result c.points-into.result c.read_u128-into.result
-        c.clear.new.self
+    c.clear.new.self
     c.triangle_width-samples_at.ensures.value (omega (arith, c.from.ensures))
-        (omega (arith, c.from-2.ensures)) c.triangle-triangle.ensures c.samples-samples.ensures
+    (omega (arith, c.from-2.ensures)) c.triangle-triangle.ensures c.samples-samples.ensures
     c.constellation.ensures c.new.ensures c.new-into.ensures c.points-into.ensures c.read_u128-into.ensures (omega arith) c.clear.ensures

@@ -21,7 +21,7 @@ returns-in-Err-streams-clause-told g c =
 pub returns-in-Err-claim-clause-told : goal.returns-in-Err-claim-clause-told
 returns-in-Err-claim-clause-told g c =
     claim_failed c.args.turn.now c.in-Ok.modulation c.in-Ok-streams.streams c.args.at (g.S.Source.shown c.args.source.now)
-        (g.S.Source.shown c.modulation.new.source)
+    (g.S.Source.shown c.modulation.new.source)
     (g.S.Source.shown c.streams.new.source) (g.S.Source.shown c.claim.new.source) c.in-Err-claim.fault c.requires.left
     c.in-Ok-streams.ensures.some c.in-Ok-streams.ensures.few c.in-Ok.ensures.whole c.in-Ok.ensures.later
     c.in-Ok-streams.ensures.whole c.in-Ok-streams.ensures.later c.in-Err-claim.ensures.failed
@@ -29,7 +29,7 @@ returns-in-Err-claim-clause-told g c =
 pub marks-requires-clause-none : goal.marks-requires-clause-none
 marks-requires-clause-none g c =
     claim_none c.args.turn.now.number c.in-Ok.modulation c.in-Ok-streams.streams c.claim.new.into (g.S.Source.shown c.streams.new.source)
-        (g.S.Source.shown c.claim.new.source)
+    (g.S.Source.shown c.claim.new.source)
     c.in-Ok-claim.ensures.whole
 
 pub returns-in-Ok-marks-clause-told : goal.returns-in-Ok-marks-clause-told
@@ -38,7 +38,7 @@ returns-in-Ok-marks-clause-told g c =
     let d = g.S.Source.shown c.claim.new.source in
     let turn = c.args.turn.now in
     let front = claim_read turn c.in-Ok.modulation c.in-Ok-streams.streams c.args.at c.in-Ok-claim.behind c.claim.new.into a
-        (g.S.Source.shown c.modulation.new.source)
+    (g.S.Source.shown c.modulation.new.source)
     (g.S.Source.shown c.streams.new.source) d c.requires.left c.in-Ok-streams.ensures.some c.in-Ok-streams.ensures.few
     c.in-Ok.ensures.whole c.in-Ok-streams.ensures.whole c.in-Ok-claim.ensures.whole c.in-Ok-claim.ensures.place in
     gives_more (here (records_due turn) c.args.at a) (here (Body (Marks turn c.claim.new.into)) c.in-Ok-claim.behind d)

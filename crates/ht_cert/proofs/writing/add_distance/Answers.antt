@@ -11,7 +11,7 @@ returns-in-Ok-clause-put c =
     let small : n < 2 ^ 64 = search rules in
     let zeros : c.add.new.self ≡ held ++ replicate 8 0 = search rules in
     let low : c.add-in-Ok.new.self ≡ c.add.new.self ++ big_bytes 8 n = c.add-in-Ok.ensures
-        ∙ ap (λ (z : List ℕ). c.add.new.self ++ z) (c.to_be_bytes.ensures ∙ ap (big_bytes 8) same) in
+    ∙ ap (λ (z : List ℕ). c.add.new.self ++ z) (c.to_be_bytes.ensures ∙ ap (big_bytes 8) same) in
     low ∙ (ap (λ (z : List ℕ). z ++ big_bytes 8 n) zeros
     ∙ (append_assoc held (replicate 8 0) (big_bytes 8 n) ∙ ap (λ (z : List ℕ). held ++ z) (lower_half n small)))
 

@@ -8,8 +8,13 @@ use Rattle.ht_certify.proofs.putting.count_frame.Goals as goal
 
 pub data_among-data-requires : goal.data_among-data-requires
 data_among-data-requires c =
-    omega (arith, ap (λ (xs : List Subcarrier). length xs) c.deref.ensures.value, c.in_ok-gather_subcarriers.ensures.few, carriers_of-range
-        c.args.frame.now.rate)
+    omega (
+      arith,
+      ap (λ (xs : List Subcarrier). length xs) c.deref.ensures.value,
+      c.in_ok-gather_subcarriers.ensures.few,
+      carriers_of-range
+          c.args.frame.now.rate,
+    )
 
 few : (c : goal.After-from-symbols) → c.from-symbols.result * c.data_among-data.result ≤ 1129296
 few c =

@@ -13,8 +13,13 @@ use Rattle.ht_certify.proofs.putting.put_frame.Goals as goal
 
 pub put_symbols-requires-clause-few : goal.put_symbols-requires-clause-few
 put_symbols-requires-clause-few g c =
-    omega (arith, ap (λ (xs : List Subcarrier). length xs) c.deref.ensures.value, c.in_ok-gather_subcarriers.ensures.few, carriers_of-range
-        c.args.frame.now.rate)
+    omega (
+      arith,
+      ap (λ (xs : List Subcarrier). length xs) c.deref.ensures.value,
+      c.in_ok-gather_subcarriers.ensures.few,
+      carriers_of-range
+          c.args.frame.now.rate,
+    )
 
 pub put_symbols-requires-clause-streams : goal.put_symbols-requires-clause-streams
 put_symbols-requires-clause-streams g c =

@@ -37,7 +37,7 @@ returns c =
     let k = c.loop-carrier.carrier in
     let none : n - k ≡ 0 = omega (arith, c.loop-carrier-test.false, c.carriers-carrier-end.ensures.value) in
     let all = listed_over f.rate c.loop-carrier.into.items (subcarriers_of f)
-        (n - k) k f.erased c.loop-carrier.triangles.now none c.loop-carrier.invariant.listed in
+    (n - k) k f.erased c.loop-carrier.triangles.now none c.loop-carrier.invariant.listed in
     record {
       listed = all;
       present = ap (λ (xs : List Subcarrier). length xs) all ∙ are_present f;

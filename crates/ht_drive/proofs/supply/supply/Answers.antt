@@ -38,7 +38,7 @@ holds g c =
     let left = c.room.ensures in
     let room : count_in (due_in g.B.Jobs.jobs before.window.slots) + length jobs ≤ before.window.capacity = omega (arith, few, size, left) in
     holds_more c.args.size (seen g.B.Jobs.jobs before.window) (seen g.B.Jobs.jobs c.issue.new.window) (g.F.BlockFeed.shown before.feed)
-        (g.F.BlockFeed.shown c.next.new.self) jobs
+    (g.F.BlockFeed.shown c.next.new.self) jobs
     before.invariant.stands.holds (gives g c) room c.issue.ensures.window
 
 -- which has the same room
@@ -55,7 +55,7 @@ returns-then-is_err-clause-steps g c =
     let so_far = c.loop-running.invariant in
     let here = (goal.at.returns-then-is_err-clause-steps g c).After-issue in
     steps_held g.F.BlockFeed.shown g.F.BlockFeed.leads (seen g.B.Jobs.jobs c.args.window.now)
-        (seen g.B.Jobs.jobs c.issue.new.window) c.args.feed.now c.next.new.self
+    (seen g.B.Jobs.jobs c.issue.new.window) c.args.feed.now c.next.new.self
     (g.met.F.BlockFeed.goes_on c.args.feed.now c.loop-running.feed c.next.new.self so_far.leads c.next.ensures.leads)
     (capacity g here) (holds g here) (λ known start. (turn g here known start).in_turn)
 
@@ -126,5 +126,5 @@ pub returns-clause-steps : goal.returns-clause-steps
 returns-clause-steps g c =
     let so_far = c.loop-running.invariant in
     steps_held g.F.BlockFeed.shown g.F.BlockFeed.leads (seen g.B.Jobs.jobs c.args.window.now)
-        (seen g.B.Jobs.jobs c.loop-running.window) c.args.feed.now c.loop-running.feed so_far.leads so_far.capacity so_far.stands.holds
-            (λ known start. (so_far.turn known start).in_turn)
+    (seen g.B.Jobs.jobs c.loop-running.window) c.args.feed.now c.loop-running.feed so_far.leads so_far.capacity so_far.stands.holds
+    (λ known start. (so_far.turn known start).in_turn)

@@ -25,5 +25,5 @@ loop-at-preserved g c =
       is = subst (λ (js : List JobView). IsTally plan c.args.head.now js new.jobs new.data_sum new.pilot_sum new.places new.values.items)
           (sym (take_one all l.at job c.job-job.ensures))
           (subst (λ (h : g.row.K-Head.Denot). IsTally plan h (take l.at all ++ job ∷ []) new.jobs new.data_sum new.pilot_sum new.places new.values.items)
-              head now);
+          head now);
     }

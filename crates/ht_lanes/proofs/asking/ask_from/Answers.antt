@@ -31,11 +31,11 @@ returns-in-Ok-Some-clause-due g c =
     let at = c.loop-at.at in
     let due = g.L.Lane.due in
     one_more c.loop-at.lanes c.ask_at.new.lanes at (e.leads []).lanes due g.L.Lane.rests c.args.lanes.now c.loop-at.invariant.same
-        (λ l. (e.gives l).takes) c.in-Ok-Some.block.jobs
+    (λ l. (e.gives l).takes) c.in-Ok-Some.block.jobs
     (omega (arith, c.loop-at-test.true, (c.loop-at.invariant.leads []).lanes))
     (λ l. some_so c.in-Ok-Some.field-0 c.in-Ok-Some.block
     (λ (block : LaneJobs). due (get_or c.ask_at.new.lanes at l) ≡ due (get_or c.loop-at.lanes at l) ++ block.jobs ∷ []) c.in-Ok-Some.field-0-is
-        (e.gives l).given)
+    (e.gives l).given)
 
 pub returns-in-Ok-Some-clause-leads : goal.returns-in-Ok-Some-clause-leads
 returns-in-Ok-Some-clause-leads g c = λ sinks.
@@ -49,7 +49,7 @@ pub returns-in-Err-clause-memory : goal.returns-in-Err-clause-memory
 returns-in-Err-clause-memory g c =
     let e = c.in-Err.ensures in
     same_none c.loop-at.lanes c.ask_at.new.lanes c.loop-at.at (e.leads []).lanes g.L.Lane.due g.L.Lane.rests c.args.lanes.now c.loop-at.invariant.same
-        (λ l. (e.gives l).takes) (λ l. (e.gives l).memory)
+    (λ l. (e.gives l).takes) (λ l. (e.gives l).memory)
 
 pub loop-at-preserved : goal.loop-at-preserved
 loop-at-preserved g c =

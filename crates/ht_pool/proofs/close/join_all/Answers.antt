@@ -8,8 +8,10 @@ use Rattle.ht_pool.proofs.close.join_all.Goals as goal
 pub join_row-requires : goal.join_row-requires
 join_row-requires g c =
     let was = c.loop-seats.invariant in
-    record { at = (rows_at_last c.args.owners.now c.loop-seats.rows.items c.pop.new.self.items c.in-Some.seats c.in-Some.ensures.items was.at).1
-        ∙ sym was.same }
+    record {
+      at = (rows_at_last c.args.owners.now c.loop-seats.rows.items c.pop.new.self.items c.in-Some.seats c.in-Some.ensures.items was.at).1
+          ∙ sym was.same;
+    }
 
 pub loop-seats-preserved : goal.loop-seats-preserved
 loop-seats-preserved g c =

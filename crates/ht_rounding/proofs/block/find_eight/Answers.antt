@@ -9,7 +9,7 @@ lane_or_search-requires-clause-certain g c valid same small some =
     let k = c.loop-k.k in
     let is = c.index-jobs-k.is ∙ element c.args.jobs.now k job no_job (omega (arith, c.requires.jobs, c.loop-k-test.true)) in
     plain-job c.args.jobs.now k job _ _ _ c.proposed-found.result is (same ∙ c.full_grid-grid.ensures) valid small
-        (c.proposed-found.ensures k c.loop-k-test.true some)
+    (c.proposed-found.ensures k c.loop-k-test.true some)
 
 pub loop-k-preserved : goal.loop-k-preserved
 loop-k-preserved g c = record {

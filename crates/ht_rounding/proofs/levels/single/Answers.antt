@@ -11,4 +11,4 @@ returns c k lt =
     (c.at_one.ensures.proposed k lt farthest (omega arith))
     (c.lesser.ensures.lane k lt ∙ ap (λ (n : ℕ). lesser (slice_index c.at_one.result.gap k) n) (get_or-replicate {A = ℕ} 8 k 16383 0 lt))
     (c.lesser-2.ensures.lane k lt ∙ ap (λ (n : ℕ). lesser n (slice_index c.args.d k))
-        (c.over.ensures.lane k lt ∙ ap (λ (n : ℕ). over n (slice_index c.at_one.result.gap k)) (get_or-replicate {A = ℕ} 8 k 16384 0 lt)))
+    (c.over.ensures.lane k lt ∙ ap (λ (n : ℕ). over n (slice_index c.at_one.result.gap k)) (get_or-replicate {A = ℕ} 8 k 16384 0 lt)))

@@ -9,4 +9,4 @@ returns-clause-below c k lt = omega (arith, c.product.ensures.lane k lt)
 pub returns-clause-product : goal.returns-clause-product
 returns-clause-product c k lt = holds-product (slice_index c.args.part k) (slice_index c.args.level k) _
     (fits-lane c.args.part k (omega (arith, c.fits-part.0)) c.fits-part.1) (fits-lane c.args.level k (omega (arith, c.fits-level.0)) c.fits-level.1)
-        (c.product.ensures.lane k lt)
+    (c.product.ensures.lane k lt)

@@ -24,4 +24,4 @@ returns-clause-certain c k lt = row-sure c.args.i c.args.q (slice_index c.args.d
 pub returns-clause-less : goal.returns-clause-less
 returns-clause-less c k lt = spare-less (slice_index c.args.spare k) _ _ _ _ _ _ (fits-lane c.args.spare k (omega (arith, c.fits-spare.0)) c.fits-spare.1)
     (c.nearest_level-at_i.ensures k lt).small (c.nearest_level-at_q.ensures k lt).small (c.cost-cost.ensures k lt) (c.over.ensures.lane k lt)
-        (c.lesser-2.ensures.lane k lt)
+    (c.lesser-2.ensures.lane k lt)

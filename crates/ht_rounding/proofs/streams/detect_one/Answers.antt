@@ -11,6 +11,6 @@ returns c k job lt some is =
     let all = split_one ch.first ch.second ch.third ch.fourth y.first y.second y.third y.fourth k job.system is.streams is.rows in
     let r = all.0 in
     let t : IsTarget (slice_index y.first.re k) (slice_index y.first.im k) (2 ^ 31)
-        (received r.sample) = record { held = all.2.sample; within = all.2.within } in
+    (received r.sample) = record { held = all.2.sample; within = all.2.within } in
     found_one c.args.i c.args.q job is.valid r _ _ _ _ all.1 is.grid
     (row-known c.args.i c.args.q _ _ _ _ _ _ _ _ _ _ (2 ^ 31) (received r.sample) (omega arith) all.2.diagonal (c.last_row.ensures.certain k lt) t some) some

@@ -16,7 +16,7 @@ returns c k job lt some is =
     let r2 = all.1 in
     let in2 = all.5 in
     let y2 : IsTarget (slice_index y.second.re k) (slice_index y.second.im k) (2 ^ 31)
-        (received r2.sample) = record { held = in2.sample; within = in2.within } in
+    (received r2.sample) = record { held = in2.sample; within = in2.within } in
     let r3 = all.2 in
     let in3 = all.6 in
     let y3 : IsTarget (slice_index y.third.re k) (slice_index y.third.im k) (2 ^ 31) (received r3.sample) = record { held = in3.sample; within = in3.within } in
@@ -24,29 +24,29 @@ returns c k job lt some is =
     let some2 : 0 < slice_index c.next_row-second.result.spare k = omega (arith, some1, c.next_row-first.ensures.less k lt) in
     let some3 : 0 < slice_index c.last_row-third.result.spare k = omega (arith, some2, c.next_row-second.ensures.less k lt) in
     let sure3 = row-known c.args.i c.args.q _ _ _ _ _ _ _ _ _ _ (2 ^ 31) (received r3.sample) (omega arith) in3.diagonal
-        (c.last_row-third.ensures.certain k lt) y3 some3 in
+    (c.last_row-third.ensures.certain k lt) y3 some3 in
     let few3 = point-few c.args.i c.args.q _ _ _ _ _ _ _ _ sure3 in
     let t2_1 = target-without _ _ _ _ _ _ (2 ^ 31) (received r2.sample) (tap_1 r2)
-        (point_of (slice_index c.last_row-third.result.i k) (slice_index c.last_row-third.result.q k)) y2 (in2.next (omega arith)) few3
+    (point_of (slice_index c.last_row-third.result.i k) (slice_index c.last_row-third.result.q k)) y2 (in2.next (omega arith)) few3
     (λ h. c.without-target.ensures k lt (received r2.sample) (tap_1 r2) h (in2.next (omega arith)) few3) in
     let sure2 = row-known c.args.i c.args.q _ _ _ _ _ _ _ _ _ _ (2 ^ 31 + 458752)
-        (complex_minus (received r2.sample) (entry_times (tap_1 r2)
-            (point_of (slice_index c.last_row-third.result.i k) (slice_index c.last_row-third.result.q k)))) (omega arith) in2.diagonal
-                (c.next_row-second.ensures.certain k lt) t2_1 some2 in
+    (complex_minus (received r2.sample) (entry_times (tap_1 r2)
+    (point_of (slice_index c.last_row-third.result.i k) (slice_index c.last_row-third.result.q k)))) (omega arith) in2.diagonal
+    (c.next_row-second.ensures.certain k lt) t2_1 some2 in
     let few2 = point-few c.args.i c.args.q _ _ _ _ _ _ _ _ sure2 in
     let t1_1 = target-without _ _ _ _ _ _ (2 ^ 31) (received r1.sample) (tap_1 r1)
-        (point_of (slice_index c.next_row-second.result.i k) (slice_index c.next_row-second.result.q k)) y1 (in1.next (omega arith)) few2
+    (point_of (slice_index c.next_row-second.result.i k) (slice_index c.next_row-second.result.q k)) y1 (in1.next (omega arith)) few2
     (λ h. c.without-target-2.ensures k lt (received r1.sample) (tap_1 r1) h (in1.next (omega arith)) few2) in
     let t1_2 = target-without _ _ _ _ _ _ (2 ^ 31 + 458752)
-        (complex_minus (received r1.sample) (entry_times (tap_1 r1)
-            (point_of (slice_index c.next_row-second.result.i k) (slice_index c.next_row-second.result.q k)))) (tap_2 r1)
-                (point_of (slice_index c.last_row-third.result.i k) (slice_index c.last_row-third.result.q k)) t1_1 (in1.second (omega arith)) few3
+    (complex_minus (received r1.sample) (entry_times (tap_1 r1)
+    (point_of (slice_index c.next_row-second.result.i k) (slice_index c.next_row-second.result.q k)))) (tap_2 r1)
+    (point_of (slice_index c.last_row-third.result.i k) (slice_index c.last_row-third.result.q k)) t1_1 (in1.second (omega arith)) few3
     (λ h. c.without-target-3.ensures k lt (complex_minus (received r1.sample)
-        (entry_times (tap_1 r1) (point_of (slice_index c.next_row-second.result.i k) (slice_index c.next_row-second.result.q k)))) (tap_2 r1) h
-            (in1.second (omega arith)) few3) in
+    (entry_times (tap_1 r1) (point_of (slice_index c.next_row-second.result.i k) (slice_index c.next_row-second.result.q k)))) (tap_2 r1) h
+    (in1.second (omega arith)) few3) in
     let sure1 = row-known c.args.i c.args.q _ _ _ _ _ _ _ _ _ _ (2 ^ 31 + 458752 + 458752)
-        (complex_minus (complex_minus (received r1.sample)
-            (entry_times (tap_1 r1) (point_of (slice_index c.next_row-second.result.i k) (slice_index c.next_row-second.result.q k))))
-                (entry_times (tap_2 r1) (point_of (slice_index c.last_row-third.result.i k) (slice_index c.last_row-third.result.q k))))
-                    (omega arith) in1.diagonal (c.next_row-first.ensures.certain k lt) t1_2 some1 in
+    (complex_minus (complex_minus (received r1.sample)
+    (entry_times (tap_1 r1) (point_of (slice_index c.next_row-second.result.i k) (slice_index c.next_row-second.result.q k))))
+    (entry_times (tap_2 r1) (point_of (slice_index c.last_row-third.result.i k) (slice_index c.last_row-third.result.q k))))
+    (omega arith) in1.diagonal (c.next_row-first.ensures.certain k lt) t1_2 some1 in
     found_three c.args.i c.args.q job is.valid r1 r2 r3 _ _ _ _ _ _ _ _ _ _ _ _ all.3 is.grid sure3 sure2 sure1 some

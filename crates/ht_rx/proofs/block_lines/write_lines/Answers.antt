@@ -12,6 +12,6 @@ loop-left-preserved g c =
       room = omega arith;
       lines = line_put (g.B.Jobs.jobs c.args.block.now) (l.left - 1) l.left c.job-job.result c.place.result c.run_gated-found.result
           (drop c.write_line-start.result c.write_line-start.new.into)
-              (drop l.start l.into) next c.place.ensures c.run_gated-found.ensures.found c.job-job.ensures
+          (drop l.start l.into) next c.place.ensures c.run_gated-found.ensures.found c.job-job.ensures
           l.invariant.lines c.write_line-start.ensures.written;
     }

@@ -1,5 +1,5 @@
-use Rattle.std.proofs.Common.{◌≡◌, ◌++◌, ◌∷◌, [], ℕ, suc, ℤ, List, pos, negsuc, ◌+◌, ◌<◌, ap, sym, ◌∙◌, arith, subst, w8, SFits, to_z, of_z, to_z-of_z,
-    rules, append_assoc, codes, unsigned_abs}
+use Rattle.std.proofs.Common.{◌≡◌, ◌++◌, ◌∷◌, [], ℕ, suc, ℤ, List, pos, negsuc, ◌+◌, ◌<◌, ap, sym, ◌∙◌, arith, subst, w8, SFits, to_z, of_z, to_z-of_z}
+use Rattle.std.proofs.Common.{rules, append_assoc, codes, unsigned_abs}
 use Rattle.std.specs.Int.Signed.{◌<ℤ◌, ◌≤ℤ◌}
 use Rattle.std.proofs.lemmas.Fmt.{decimal_digit}
 use Rattle.std.proofs.lemmas.Int.{ints}

@@ -1,5 +1,5 @@
-use Rattle.std.proofs.Common.{◌≡◌, ◌∙◌, ℕ, ◌+◌, ◌<◌, ◌≢◌, List, length, set, slice_index, ap, sym, subst, arith, rules, get_or-set_other, get_or-set_same,
-    below_more}
+use Rattle.std.proofs.Common.{◌≡◌, ◌∙◌, ℕ, ◌+◌, ◌<◌, ◌≢◌, List, length, set, slice_index, ap, sym, subst, arith, rules, get_or-set_other, get_or-set_same}
+use Rattle.std.proofs.Common.{below_more}
 use Rattle.ht_viterbi.specs.Lanes.{IsLight}
 use Rattle.ht_viterbi.specs.Trellis.{StepCosts, branch_cost}
 use Rattle.ht_viterbi.proofs.RowFacts.{hard-light}

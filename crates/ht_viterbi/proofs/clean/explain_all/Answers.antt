@@ -26,7 +26,7 @@ returns-in-Some-explain_turn-clause-terminated c = λ zero_state many.
     let less = mod-le c.args.steps len in
     let whole : c.args.steps - c.args.steps % len + c.args.steps % len ≡ c.args.steps = omega (arith, less) in
     explained-ends c.args.pattern (map known_of c.args.received.now) c.explain_turn-2.new.input.items c.args.steps c.in-Some-explain_turn.end.place
-        c.in-Some-explain_turn.end.state
+    c.in-Some-explain_turn.end.state
     (eqb-true c.in-Some-explain_turn.end.state 0 zero_state) many
     (subst (λ (n : ℕ). IsExplained c.args.pattern (map known_of c.args.received.now) c.explain_turn-2.new.input.items n c.in-Some-explain_turn.end.place
     c.in-Some-explain_turn.end.state)

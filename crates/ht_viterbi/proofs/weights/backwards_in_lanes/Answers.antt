@@ -48,7 +48,7 @@ step-word-requires-clause-light c =
 cons-is : (c : goal.After-next-1) →
     steps_from c.args.pattern (map (costs_of weight_cost) c.args.weights.now) (c.loop-at.at - 1) (length c.args.choices.now - (c.loop-at.at - 1))
     ≡ c.step_at-branches.result ∷ steps_from c.args.pattern (map (costs_of weight_cost) c.args.weights.now) c.loop-at.at
-        (length c.args.choices.now - c.loop-at.at)
+    (length c.args.choices.now - c.loop-at.at)
 cons-is c =
     pair-back c.args.pattern (map (costs_of weight_cost) c.args.weights.now) (length c.args.choices.now) c.loop-at.at c.step_at-branches.result
     c.loop-at-test.true c.loop-at.invariant.within c.step_at-branches.ensures.value
@@ -56,7 +56,7 @@ cons-is c =
 -- the costs of the step, before they are lowered
 costs-are : (c : goal.After-next-1) → (k : ℕ) → k < 64 → slice_index c.step-word.result.0 k + c.loop-at.fallen
     ≡ least_from (steps_from c.args.pattern (map (costs_of weight_cost) c.args.weights.now) (c.loop-at.at - 1)
-        (length c.args.choices.now - (c.loop-at.at - 1))) k
+    (length c.args.choices.now - (c.loop-at.at - 1))) k
 costs-are c =
     let steps = length c.args.choices.now in
     let was = c.loop-at.invariant in

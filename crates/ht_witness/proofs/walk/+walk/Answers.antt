@@ -27,7 +27,7 @@ quadrature-loop-level-init g t c = record {
 pub quadrature-returns-clause-walked : goal.quadrature-returns-clause-walked
 quadrature-returns-clause-walked g t c = λ rest.
     over (g.V.Visitor.outcome c.args.visitor.now)
-        (q_at c.args.job.now.system c.args.job.now.grid (c.args.k - 1)) _ _ _ _ _ _ rest c.in_default.ensures.next.0 (c.loop-level.invariant.goes rest)
+    (q_at c.args.job.now.system c.args.job.now.grid (c.args.k - 1)) _ _ _ _ _ _ rest c.in_default.ensures.next.0 (c.loop-level.invariant.goes rest)
 
 -- the levels of quadrature with the next one, and that they are
 abbrev q_all : (g : _) (t : _) → quadrature-After-from-in-Some g t → List ℤ
@@ -152,7 +152,7 @@ in_phase-loop-level-init g t c = record {
 pub in_phase-returns-clause-walked : goal.in_phase-returns-clause-walked
 in_phase-returns-clause-walked g t c = λ rest.
     over (g.V.Visitor.outcome c.args.visitor.now)
-        (i_at c.args.job.now.system c.args.job.now.grid (c.args.k - 1)) _ _ _ _ _ _ rest c.in_default.ensures.next.0 (c.loop-level.invariant.goes rest)
+    (i_at c.args.job.now.system c.args.job.now.grid (c.args.k - 1)) _ _ _ _ _ _ rest c.in_default.ensures.next.0 (c.loop-level.invariant.goes rest)
 
 -- the levels of in_phase with the next one, and that they are
 abbrev i_all : (g : _) (t : _) → in_phase-After-from-in-Some g t → List ℤ

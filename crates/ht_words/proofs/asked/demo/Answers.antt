@@ -26,7 +26,7 @@ pub returns-in_err-frames : goal.returns-in_err-frames
 returns-in_err-frames c =
     let texts = map string_bytes c.args.words.now in
     refuses_value for_demo texts (demo_in texts)
-        (err_from_is_err_and c.from_residual-in_err-frames.result c.from_residual-in_err-frames.ensures.1) 2 Frames refl
+    (err_from_is_err_and c.from_residual-in_err-frames.result c.from_residual-in_err-frames.ensures.1) 2 Frames refl
     c.in_err-frames.ensures.refused
 
 pub returns-in_err-mcs : goal.returns-in_err-mcs
@@ -39,26 +39,26 @@ pub returns-in_err-bandwidth : goal.returns-in_err-bandwidth
 returns-in_err-bandwidth c =
     let texts = map string_bytes c.args.words.now in
     refuses_value for_demo texts (demo_in texts)
-        (err_from_is_err_and c.from_residual-in_err-bandwidth.result c.from_residual-in_err-bandwidth.ensures.1) 4 Bandwidth refl
+    (err_from_is_err_and c.from_residual-in_err-bandwidth.result c.from_residual-in_err-bandwidth.ensures.1) 4 Bandwidth refl
     c.in_err-bandwidth.ensures.refused
 
 pub returns-in_err-length : goal.returns-in_err-length
 returns-in_err-length c =
     let texts = map string_bytes c.args.words.now in
     refuses_value for_demo texts (demo_in texts)
-        (err_from_is_err_and c.from_residual-in_err-length.result c.from_residual-in_err-length.ensures.1) 5 Length refl
+    (err_from_is_err_and c.from_residual-in_err-length.result c.from_residual-in_err-length.ensures.1) 5 Length refl
     c.in_err-length.ensures.refused
 
 pub returns-in_err-workers : goal.returns-in_err-workers
 returns-in_err-workers c =
     let texts = map string_bytes c.args.words.now in
     refuses_value for_demo texts (demo_in texts)
-        (err_from_is_err_and c.from_residual-in_err-workers.result c.from_residual-in_err-workers.ensures.1) 6 Workers refl
+    (err_from_is_err_and c.from_residual-in_err-workers.result c.from_residual-in_err-workers.ensures.1) 6 Workers refl
     c.in_err-workers.ensures.refused
 
 pub returns-in_err-window : goal.returns-in_err-window
 returns-in_err-window c =
     let texts = map string_bytes c.args.words.now in
     refuses_value for_demo texts (demo_in texts)
-        (err_from_is_err_and c.from_residual-in_err-window.result c.from_residual-in_err-window.ensures.1) 7 Window refl
+    (err_from_is_err_and c.from_residual-in_err-window.result c.from_residual-in_err-window.ensures.1) 7 Window refl
     c.in_err-window.ensures.refused

@@ -18,7 +18,7 @@ returns c =
           rw (← c.self.view_is)
           (subst
           (λ (s : Stage). Gives (shown_at s old.at old.present.items old.samples.items source) (shown_by c.move_past.new.self source)
-              (Job c.job_of-job.result ∷ []))
+          (Job c.job_of-job.result ∷ []))
           (sym is)
           (gives_joined due k old.at _ _ _ _ source _ _ c.deref.ensures.value c.deref-2.ensures.value (c.job_of-job.ensures.told source)
           (rw (← c.self.view_is) at (c.move_past.ensures.told source))));

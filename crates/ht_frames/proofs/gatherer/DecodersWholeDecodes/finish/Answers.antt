@@ -15,7 +15,7 @@ returns g c =
     let there = c.decode.new.queue.items in
     let left = c.leave-frame.ensures in
     let goes = stands_behind g.U.Whole.WholeFrame.result_of b.booked queue there c.leave-frame.result one mid after left.value c.in_ok-decode.ensures
-        left.kept in
+    left.kept in
     record {
       put = puts_first g.U.Whole.WholeFrame.result_of b.booked a now queue there
           (behind_one one mid) after [] goes c.book_frames.result c.book_frames.new.queue.items

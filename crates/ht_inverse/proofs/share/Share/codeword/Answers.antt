@@ -29,7 +29,7 @@ returns-clause-value c =
     IfOk-weaker c.decode_received.result (λ codeword. IsFound place_cost steps p received codeword.input codeword.distance)
     (λ codeword. codeword ≡ codeword_of s.rate c.args.frame.now.octets s.erased c.args.frame.now.labels.now s.encoder)
     (λ codeword. codeword-is s.rate c.args.frame.now.octets s.erased s.encoder steps c.args.frame.now.labels.now p received codeword
-        c.codeword_steps-steps.ensures.value
+    c.codeword_steps-steps.ensures.value
     c.pattern.ensures (is-received c.deref.ensures.value c.in_ok-received.ensures) (omega (arith, c.codeword_steps-steps.ensures.low)))
     c.decode_received.ensures
 
@@ -48,7 +48,7 @@ returns-clause-few c =
     let received = map known_of c.deref.result.now in
     let many =
     received-length s.rate c.args.frame.now.octets s.erased s.encoder c.codeword_steps-steps.result c.args.frame.now.labels.now p received
-        c.codeword_steps-steps.ensures.value c.pattern.ensures
+    c.codeword_steps-steps.ensures.value c.pattern.ensures
     (is-received c.deref.ensures.value c.in_ok-received.ensures) in
     IfOk-weaker c.decode_received.result (λ codeword. IsFound place_cost c.codeword_steps-steps.result p received codeword.input codeword.distance)
     (λ codeword. codeword.distance ≤ 1073741824)

@@ -28,7 +28,7 @@ returns-then-self-eq0 c =
     (range_with_len 0 c.coded_bits-count.result))
     (λ bits. map known_of bits.items ≡ received_of s.rate c.args.frame.now.octets s.erased labels s.encoder)
     (λ bits are. decisions-are s.rate c.args.frame.now.octets s.erased s.encoder c.coded_bits-count.result labels bits.items
-        c.coded_bits-count.ensures.value are)
+    c.coded_bits-count.ensures.value are)
     c.received.ensures
 
 pub returns-else-self-eq0 : goal.returns-else-self-eq0
@@ -40,5 +40,5 @@ returns-else-self-eq0 c =
     (range_with_len 0 c.coded_bits-count.result))
     (λ bits. map known_of bits.items ≡ received_of s.rate c.args.frame.now.octets s.erased labels s.encoder)
     (λ bits are. decisions-are s.rate c.args.frame.now.octets s.erased s.encoder c.coded_bits-count.result labels bits.items
-        c.coded_bits-count.ensures.value are)
+    c.coded_bits-count.ensures.value are)
     c.received-else-self-eq0.ensures

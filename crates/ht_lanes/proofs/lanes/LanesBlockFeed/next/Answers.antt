@@ -11,7 +11,7 @@ size-requires g c =
     let block : LaneJobs = c.in-Ok-Some.block in
     let asked : ℕ × LaneJobs = (c.in-Ok-Some.lane, block) in
     let few = some_so c.in-Ok-Some.field-0 asked
-        (λ (a : ℕ × LaneJobs). length a.1.jobs ≤ c.args.most) c.in-Ok-Some.field-0-is c.in-Ok-Some.ensures.gives.answers.block.few in
+    (λ (a : ℕ × LaneJobs). length a.1.jobs ≤ c.args.most) c.in-Ok-Some.field-0-is c.in-Ok-Some.ensures.gives.answers.block.few in
     omega (arith, few, c.ranges.most.fits, length_numbered block.first block.jobs)
 
 pub overflow_add-self-in-Ok-Some : goal.overflow_add-self-in-Ok-Some
@@ -19,9 +19,17 @@ overflow_add-self-in-Ok-Some g c =
     let block : LaneJobs = c.in-Ok-Some.block in
     let asked : ℕ × LaneJobs = (c.in-Ok-Some.lane, block) in
     let few = some_so c.in-Ok-Some.field-0 asked
-        (λ (a : ℕ × LaneJobs). length a.1.jobs ≤ c.args.most) c.in-Ok-Some.field-0-is c.in-Ok-Some.ensures.gives.answers.block.few in
-    omega (arith, few, c.ranges.most.fits, length_numbered block.first block.jobs, c.from.ensures, c.from-in-Ok-Some.ensures, c.size.ensures,
-        c.if-self-from.false)
+    (λ (a : ℕ × LaneJobs). length a.1.jobs ≤ c.args.most) c.in-Ok-Some.field-0-is c.in-Ok-Some.ensures.gives.answers.block.few in
+    omega (
+      arith,
+      few,
+      c.ranges.most.fits,
+      length_numbered block.first block.jobs,
+      c.from.ensures,
+      c.from-in-Ok-Some.ensures,
+      c.size.ensures,
+      c.if-self-from.false,
+    )
 
 pub invariant_of-self-in-Ok-Some-clause-feed : goal.invariant_of-self-in-Ok-Some-clause-feed
 invariant_of-self-in-Ok-Some-clause-feed g c =
@@ -41,9 +49,17 @@ invariant_of-self-in-Ok-Some-clause-few g c =
     let block : LaneJobs = c.in-Ok-Some.block in
     let asked : ℕ × LaneJobs = (c.in-Ok-Some.lane, block) in
     let few = some_so c.in-Ok-Some.field-0 asked
-        (λ (a : ℕ × LaneJobs). length a.1.jobs ≤ c.args.most) c.in-Ok-Some.field-0-is c.in-Ok-Some.ensures.gives.answers.block.few in
-    omega (arith, few, c.ranges.most.fits, length_numbered block.first block.jobs, c.from.ensures, c.from-in-Ok-Some.ensures, c.size.ensures,
-        c.if-self-from.false)
+    (λ (a : ℕ × LaneJobs). length a.1.jobs ≤ c.args.most) c.in-Ok-Some.field-0-is c.in-Ok-Some.ensures.gives.answers.block.few in
+    omega (
+      arith,
+      few,
+      c.ranges.most.fits,
+      length_numbered block.first block.jobs,
+      c.from.ensures,
+      c.from-in-Ok-Some.ensures,
+      c.size.ensures,
+      c.if-self-from.false,
+    )
 
 pub returns-in-Ok-Some-clause-block : goal.returns-in-Ok-Some-clause-block
 returns-in-Ok-Some-clause-block g c =
@@ -59,7 +75,15 @@ returns-in-Ok-Some-clause-block g c =
     let first = some_so c.in-Ok-Some.field-0 asked (λ (a : ℕ × LaneJobs). a.1.first ≡ count) is e.answers.block.first in
     let due = some_so c.in-Ok-Some.field-0 asked (λ (a : ℕ × LaneJobs). after ≡ ring ++ due_of a.0 a.1 ∷ []) is e.due in
     let total : count + c.from-in-Ok-Some.result ≤ most_jobs =
-    omega (arith, few, c.ranges.most.fits, length_numbered block.first block.jobs, c.from.ensures, c.from-in-Ok-Some.ensures, c.size.ensures,
-        c.if-self-from.false) in
+    omega (
+      arith,
+      few,
+      c.ranges.most.fits,
+      length_numbered block.first block.jobs,
+      c.from.ensures,
+      c.from-in-Ok-Some.ensures,
+      c.size.ensures,
+      c.if-self-from.false,
+    ) in
     gives_block c.args.most count c.from-in-Ok-Some.result c.in-Ok-Some.lane ring after c.args.self.now.ended c.args.self.now.failed block c.requires.running
     due first some few (c.from-in-Ok-Some.ensures ∙ c.size.ensures) total

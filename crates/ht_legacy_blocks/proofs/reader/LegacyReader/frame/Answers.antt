@@ -43,5 +43,5 @@ returns-in-Err-clause-told g c =
     halts_seen old old.course (captures_due c.args.frames) old.at
     (record { course = refl; state = ap state_of c.requires.stage ∙ next_frame c.args.frames; at = refl }) source after c.in-Err.fault c.requires.none
     (subst (λ (n : ℕ). StopsWithCause (reader_in captures (captures_due c.args.frames) n source) after c.in-Err.fault)
-        (ap (λ (r : Progress). r.at) c.self.view_is)
+    (ap (λ (r : Progress). r.at) c.self.view_is)
     (c.in-Err.ensures.told c.args.frames some))

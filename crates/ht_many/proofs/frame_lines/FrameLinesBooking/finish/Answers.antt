@@ -18,4 +18,4 @@ returns-clause-books g c =
 pub returns-clause-none : goal.returns-clause-none
 returns-clause-none g c =
     ap (λ (fs : List FrameSoFar). booked_behind result_of result_line fs (results_by label_plan with_octets result_of c.args.self.now.under_way) [])
-        c.none_waits.ensures
+    c.none_waits.ensures

@@ -9,7 +9,7 @@ pub returns-clause-value : goal.returns-clause-value
 returns-clause-value c =
     let good : Rate → Result Rate RateFault = Ok in
     ap (λ (r : Rate). good r) (looked_up c.args.bw c.args.mcs c.from.result c.from-2.result c.at.result c.at.ensures c.from.ensures c.from-2.ensures
-        (omega arith))
+    (omega arith))
     ∙ sym (rate_of-ok c.args.bw c.args.mcs (omega arith) (omega arith))
 
 pub returns-clause-given : goal.returns-clause-given

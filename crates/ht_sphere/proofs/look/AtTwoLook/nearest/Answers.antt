@@ -8,12 +8,12 @@ use Rattle.ht_sphere.proofs.look.AtTwoLook.nearest.Goals as goal
 pub first-level-requires : goal.first-level-requires
 first-level-requires c =
     subst (λ (xs : List ℤ). 0 < length xs) (sym c.new-walk.ensures)
-        (walk_some c.args.ladder (gap (to_z w64 (of_z w64 c.args.target)) c.from.result) c.requires.ladder)
+    (walk_some c.args.ladder (gap (to_z w64 (of_z w64 c.args.target)) c.from.result) c.requires.ladder)
 
 pub second-requires : goal.second-requires
 second-requires c =
     subst (λ (xs : List ℤ). 0 < length xs) (sym c.new-walk.ensures)
-        (walk_some c.args.ladder (gap (to_z w64 (of_z w64 c.args.target)) c.from.result) c.requires.ladder)
+    (walk_some c.args.ladder (gap (to_z w64 (of_z w64 c.args.target)) c.from.result) c.requires.ladder)
 
 pub overflow_sub-margin : goal.overflow_sub-margin
 overflow_sub-margin c =
@@ -49,7 +49,7 @@ returns-in-Some-clause-margin c =
     let rest = drop 2 c.new-walk.result in
     let sorted = sorted_of l t _ d _ c.new-walk.result c.new-walk.ensures there c.from.ensures in
     let walk = of_two (nearest_first (gap t d) (levels l)) c.new-walk.result x z sorted
-        (to_z-of_z x_fits ∙ c.first-level.ensures.value) c.in-Some.ensures.value in
+    (to_z-of_z x_fits ∙ c.first-level.ensures.value) c.in-Some.ensures.value in
     let far = c.cost.ensures.value ∙ squares d _ t _ z there (to_z-of_z z_fits) in
     let near = c.cost-in-Some.ensures.value ∙ squares d _ t x x there refl in
     margin_at_two l t d x z rest (c.cost.result - c.cost-in-Some.result) walk (omega (arith, far, near, second_costs l t d x z rest walk))
@@ -64,4 +64,4 @@ returns-in-None-clause-margin c =
     let t_fits : SFits w64 t = search rules in
     let sorted = sorted_of l t _ d _ c.new-walk.result c.new-walk.ensures (to_z-of_z t_fits) c.from.ensures in
     margin_of_one l t d x _ (of_one (nearest_first (gap t d) (levels l)) c.new-walk.result x sorted
-        (to_z-of_z x_fits ∙ c.first-level.ensures.value) c.in-None.ensures.value)
+    (to_z-of_z x_fits ∙ c.first-level.ensures.value) c.in-None.ensures.value)

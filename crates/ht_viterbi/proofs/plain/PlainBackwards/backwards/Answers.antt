@@ -40,7 +40,7 @@ loop-at-preserved g c =
     let pairs = steps_from c.args.pattern places at (steps - at) in
     let all = steps_from c.args.pattern places (at - 1) (steps - (at - 1)) in
     let bound = bound-step c.step.new.into c.loop-at.costs (nat_lt 6 (steps - (at - 1))) c.step_at-branches.result (2 ^ 33 * (steps - at)) (2 ^ 33)
-        (search rules)
+    (search rules)
     was.bound c.step_at-branches.ensures.bound c.step.ensures.costs in
     record {
       within = omega arith;
@@ -50,6 +50,6 @@ loop-at-preserved g c =
           (nat_lt 6 (steps - (at - 1))) c.step_at-branches.result cons free was.costs c.step.ensures.costs;
       choices = choices-step all pairs c.loop-at.choices (at - 1) at c.step.result c.step_at-branches.result cons (omega arith) (omega arith)
           (chosen-step pairs c.step.result (slice_index c.loop-at.costs)
-              (nat_lt 6 (steps - (at - 1))) c.step_at-branches.result free was.costs c.step.ensures.choices) was.choices;
+          (nat_lt 6 (steps - (at - 1))) c.step_at-branches.result free was.costs c.step.ensures.choices) was.choices;
       bound = λ k. omega (arith, bound k);
     }
