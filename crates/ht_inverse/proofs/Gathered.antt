@@ -71,7 +71,7 @@ place-bounds r erased j i there =
     (subst (λ (k : ℕ). landing.carrier * streams_of r + (landing.stream - 1) < k) (mul_comm (streams_of r) (data_carriers_of r)) within, omega arith)
 
 -- a place has the coded bit of each symbol
-pub place-received : (r : Rate) (erased j n i : ℕ) (labels : List ℕ) → i < share_of r
+place-received : (r : Rate) (erased j n i : ℕ) (labels : List ℕ) → i < share_of r
     → received_at r erased labels j (n * share_of r + i)
     ≡ bit_in (label_bit_of r erased j i) (slice_index_or labels (n * labels_per_symbol r + (label_bit_of r erased j i).label) 0)
 unfolding received_at label_bit_of label_bit

@@ -1,5 +1,4 @@
 pub mod Gathered
-pub mod Spotted
 pub mod Lost
 pub mod Codewords
 pub mod Outcomes

@@ -5,21 +5,18 @@ ghost use Rattle.std.specs.List.{range_with_len};
 ghost use Rattle.ht_rate.specs.Rates.{encoders_of, label_bits_of, pattern_of, steps_of, symbols_of};
 ghost use Rattle.ht_conv.specs.Puncturing.{sent_count};
 ghost use Rattle.ht_parse.specs.Streams.{share_of};
-ghost use Rattle.ht_viterbi.specs.Packed.{flag, packed_bit};
 ghost use Rattle.ht_viterbi.specs.Received.{known_of};
 ghost use Rattle.ht_inverse.specs.Received.{labels_in_frame, labels_per_symbol, received_of, values_of};
-ghost use Rattle.ht_inverse.specs.Shares.{AreLost, HasSymbols, codeword_of, decided_in, known_at, label_bit_of, label_bits_to};
-ghost use Rattle.ht_inverse.specs.Shares.{mask_of, offset_of, spot_count};
+ghost use Rattle.ht_inverse.specs.Shares.{AreLost, HasSymbols, codeword_of, known_at, label_bit_of, label_bits_to};
 
 use crate::erasures::lost_carriers;
 use crate::frame_labels::FrameLabels;
 use crate::label_bit::LabelBit;
 use crate::label_values::{Decisions, LabelValues, Values};
-use crate::spots::{Spots, spots_of, word_at};
 use ht_conv::sent;
 use ht_landing::Landing;
 use ht_rate::Rate;
-use ht_viterbi::{Codeword, ReceivedBit, WORD_PLACES, decode_packed, decode_received};
+use ht_viterbi::{Codeword, ReceivedBit, decode_received};
 use std::alloc::{AllocError, Global};
 
 /// Where the labels of a symbol have the coded bits of an encoder's share, in their order.
@@ -34,11 +31,8 @@ pub struct Share {
     /// The encoder, 0 or 1.
     pub encoder: u8,
     pub(crate) places: Vec<LabelBit>,
-    pub(crate) spots: Spots,
     pub(crate) ghost there: { encoder < encoders_of rate },
     pub(crate) ghost places_are: { places.items ≡ label_bits_to rate erased encoder (share_of rate) },
-    pub(crate) ghost offsets_are: { spots.offsets.items ≡ map (offset_of rate erased encoder) (range_with_len 0 (spot_count rate)) },
-    pub(crate) ghost masks_are: { spots.masks.items ≡ map (mask_of rate erased encoder) (range_with_len 0 (spot_count rate)) },
 }
 
 // N_CBPS / N_ES, the coded bits of an encoder in a symbol.
@@ -92,13 +86,11 @@ impl Share {
         ensures encoder { IfOk result (λ share. share.encoder ≡ encoder) }
     {
         let places = first_places(alloc, rate, erased, encoder, share_size(rate))?;
-        let spots = spots_of(alloc, rate, erased, encoder, places.as_slice())?;
         Ok(Share {
             rate: *rate,
             erased,
             encoder,
             places,
-            spots,
         })
     }
 
@@ -187,54 +179,7 @@ impl Share {
         sent(self.rate.pattern(), self.rate.codeword_steps(octets)) as usize
     }
 
-    // The coded bits that word `at` of a codeword has first, of which the symbols have so many.
-    #[inline(always)]
-    fn word(&self, labels: &[u8], per_symbol: usize, symbols: usize, at: usize, count: usize) -> u64
-        requires per_symbol { per_symbol ≡ labels_per_symbol self.now.rate }
-        requires labels { length labels.now ≡ symbols * labels_per_symbol self.now.rate }
-        requires few { symbols ≤ 2 ^ 20 }
-        requires count { count ≤ 60 }
-        requires within { 60 * at + count ≤ symbols * share_of self.now.rate }
-        ensures { (k : ℕ) → k < count
-            → flag result k ≡ known_at (decided_in labels.now) self.now.rate self.now.erased self.now.encoder (60 * at + k) }
-    {
-        let share = self.places.len();
-        let place = WORD_PLACES * at;
-        word_at(
-            labels,
-            place / share * per_symbol,
-            &self.spots,
-            place % share,
-            count,
-        )
-    }
-
-    // The encoder's first coded bits, packed into words.
-    fn words(
-        &self,
-        alloc: Global,
-        labels: &[u8],
-        symbols: usize,
-        count: usize,
-    ) -> Result<Vec<u64>, AllocError>
-        requires labels { length labels.now ≡ symbols * labels_per_symbol self.now.rate }
-        requires few { symbols ≤ 2 ^ 20 }
-        requires count { count ≤ symbols * share_of self.now.rate }
-        ensures enough { IfOk result (λ words. count ≤ 60 * length words.items) }
-        ensures bits { IfOk result (λ words. (q : ℕ) → q < count
-            → packed_bit words.items q ≡ known_at (decided_in labels.now) self.now.rate self.now.erased self.now.encoder q) }
-    {
-        let per_symbol = usize::from(self.rate.data_carriers()) * usize::from(self.rate.streams());
-        let whole = count / WORD_PLACES;
-        let mut words = Vec::with_capacity(alloc, whole + 1)?;
-        for at in 0..whole {
-            words.push_reserved(self.word(labels, per_symbol, symbols, at, WORD_PLACES));
-        }
-        words.push_reserved(self.word(labels, per_symbol, symbols, whole, count % WORD_PLACES));
-        Ok(words)
-    }
-
-    // The received list of a frame, some of whose subcarriers may be erased.
+    /// The received list of a frame. A whole share has loops of its own.
     fn gathered(&self, alloc: Global, frame: &FrameLabels) -> Result<Vec<ReceivedBit>, AllocError>
         requires { length frame.now.labels.now ≡ labels_in_frame self.now.rate frame.now.octets }
         ensures { IfOk result (λ bits. map known_of bits.items
@@ -243,8 +188,13 @@ impl Share {
         let labels = frame.labels;
         let symbols = self.rate.symbols(frame.octets) as usize;
         let count = self.coded_bits(frame.octets);
-        let whole = false;
-        self.received(alloc, symbols, &Decisions { labels, whole }, count)
+        if self.erased == 0 {
+            let whole = true;
+            self.received(alloc, symbols, &Decisions { labels, whole }, count)
+        } else {
+            let whole = false;
+            self.received(alloc, symbols, &Decisions { labels, whole }, count)
+        }
     }
 
     /// What is known of the coded bits of a frame with this number of octets.
@@ -272,49 +222,6 @@ impl Share {
         self.received(alloc, symbols, &labels, self.coded_bits(octets))
     }
 
-    // The codeword of a frame without erased subcarriers, decoded.
-    fn whole_codeword(
-        &self,
-        alloc: Global,
-        frame: &FrameLabels,
-        steps: u32,
-    ) -> Result<Codeword, AllocError>
-        requires steps { steps ≡ steps_of self.now.rate frame.now.octets }
-        requires least { 6 ≤ steps }
-        requires most { steps ≤ 524302 }
-        requires whole { self.now.erased ≡ 0 }
-        requires labels { length frame.now.labels.now ≡ labels_in_frame self.now.rate frame.now.octets }
-        ensures value { IfOk result (λ c. c
-            ≡ codeword_of self.now.rate frame.now.octets self.now.erased frame.now.labels.now self.now.encoder) }
-        ensures steps { IfOk result (λ c. length c.input ≡ steps_of self.now.rate frame.now.octets) }
-        ensures few { IfOk result (λ c. c.distance ≤ 2 ^ 30) }
-    {
-        let symbols = self.rate.symbols(frame.octets) as usize;
-        let count = self.coded_bits(frame.octets);
-        let words = self.words(alloc, frame.labels, symbols, count)?;
-        decode_packed(alloc, steps, self.rate.pattern(), &words)
-    }
-
-    // The codeword of a frame, decoded with what its subcarriers leave of it.
-    fn torn_codeword(
-        &self,
-        alloc: Global,
-        frame: &FrameLabels,
-        steps: u32,
-    ) -> Result<Codeword, AllocError>
-        requires steps { steps ≡ steps_of self.now.rate frame.now.octets }
-        requires least { 6 ≤ steps }
-        requires most { steps ≤ 524302 }
-        requires labels { length frame.now.labels.now ≡ labels_in_frame self.now.rate frame.now.octets }
-        ensures value { IfOk result (λ c. c
-            ≡ codeword_of self.now.rate frame.now.octets self.now.erased frame.now.labels.now self.now.encoder) }
-        ensures steps { IfOk result (λ c. length c.input ≡ steps_of self.now.rate frame.now.octets) }
-        ensures few { IfOk result (λ c. c.distance ≤ 2 ^ 30) }
-    {
-        let received = self.gathered(alloc, frame)?;
-        decode_received(alloc, steps, self.rate.pattern(), &received)
-    }
-
     /// The codeword of a frame, decoded.
     pub(crate) fn codeword(
         &self,
@@ -327,11 +234,8 @@ impl Share {
         ensures steps { IfOk result (λ c. length c.input ≡ steps_of self.now.rate frame.now.octets) }
         ensures few { IfOk result (λ c. c.distance ≤ 2 ^ 30) }
     {
+        let received = self.gathered(alloc, frame)?;
         let steps = self.rate.codeword_steps(frame.octets);
-        if self.erased == 0 {
-            self.whole_codeword(alloc, frame, steps)
-        } else {
-            self.torn_codeword(alloc, frame, steps)
-        }
+        decode_received(alloc, steps, self.rate.pattern(), &received)
     }
 }

@@ -10,11 +10,17 @@ use Rattle.ht_inverse.proofs.share.Share.gathered.Goals as goal
 pub received-requires-clause-labels : goal.received-requires-clause-labels
 received-requires-clause-labels c =
     let s = c.args.self.now in
+    has-decisions s.rate s.erased s.encoder c.symbols-symbols.result c.args.frame.now.labels.now true s.there
+    (c.requires ∙ ap (λ (n : ℕ). n * labels_per_symbol s.rate) (sym c.symbols-symbols.ensures.value)) (λ _. c.if-self-eq0.true)
+
+pub received-requires-else-self-eq0-clause-labels : goal.received-requires-else-self-eq0-clause-labels
+received-requires-else-self-eq0-clause-labels c =
+    let s = c.args.self.now in
     has-decisions s.rate s.erased s.encoder c.symbols-symbols.result c.args.frame.now.labels.now false s.there
     (c.requires ∙ ap (λ (n : ℕ). n * labels_per_symbol s.rate) (sym c.symbols-symbols.ensures.value)) (λ e. absurd (true≢false (sym e)))
 
-pub returns : goal.returns
-returns c =
+pub returns-then-self-eq0 : goal.returns-then-self-eq0
+returns-then-self-eq0 c =
     let s = c.args.self.now in
     let labels = c.args.frame.now.labels.now in
     IfOk-weaker c.received.result
@@ -24,3 +30,15 @@ returns c =
     (λ bits are. decisions-are s.rate c.args.frame.now.octets s.erased s.encoder c.coded_bits-count.result labels bits.items
     c.coded_bits-count.ensures.value are)
     c.received.ensures
+
+pub returns-else-self-eq0 : goal.returns-else-self-eq0
+returns-else-self-eq0 c =
+    let s = c.args.self.now in
+    let labels = c.args.frame.now.labels.now in
+    IfOk-weaker c.received-else-self-eq0.result
+    (λ bits. bits.items ≡ map (known_at (λ label place. decision_in place (slice_index_or labels label 0)) s.rate s.erased s.encoder)
+    (range_with_len 0 c.coded_bits-count.result))
+    (λ bits. map known_of bits.items ≡ received_of s.rate c.args.frame.now.octets s.erased labels s.encoder)
+    (λ bits are. decisions-are s.rate c.args.frame.now.octets s.erased s.encoder c.coded_bits-count.result labels bits.items
+    c.coded_bits-count.ensures.value are)
+    c.received-else-self-eq0.ensures
