@@ -8,3 +8,4 @@ mod Settling
 mod FoundLanes
 mod Loaded
 mod Answered
+mod Labelling

@@ -30,7 +30,7 @@ fn ladder_of(levels: Levels) -> Ladder
 }
 
 // The grid of so many streams, each with all these levels.
-fn full_grid(i: Levels, q: Levels, streams: u8) -> Grid
+pub(crate) fn full_grid(i: Levels, q: Levels, streams: u8) -> Grid
     requires some { 1 ≤ streams }
     requires few { streams ≤ 4 }
     ensures { result ≡ replicate streams (axes_of i q) }
@@ -51,7 +51,7 @@ fn full_grid(i: Levels, q: Levels, streams: u8) -> Grid
 }
 
 // Whether the diagonals of a job are below 2^14.
-fn has_small_diagonals(job: &Job) -> bool
+pub(crate) fn has_small_diagonals(job: &Job) -> bool
     ensures { result ≡ true → HaveSmall job.now.system }
 {
     let system = job.system();
@@ -64,7 +64,7 @@ fn has_small_diagonals(job: &Job) -> bool
 }
 
 // Whether each of eight jobs has so many streams.
-fn have_streams(jobs: &[Job], streams: u8) -> bool
+pub(crate) fn have_streams(jobs: &[Job], streams: u8) -> bool
     requires { length jobs.now ≡ 8 }
     ensures { result ≡ true → HaveStreams streams jobs.now }
 {
