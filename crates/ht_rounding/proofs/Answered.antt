@@ -109,3 +109,11 @@ one-plain i q n jobs lanes k job plain lt before is can = (
         subst (λ (m : ℕ). IsPlain i q n (slice_index_or jobs m no_job)) same (subst (λ (o : JobView). IsPlain i q n o) is (can mine))
   ],
 )
+
+-- a list whose elements are all the same
+pub all_same : {A : Type 0} (xs : List A) (n : ℕ) (d x : A) → n ≡ length xs → ((k : ℕ) → k < n → slice_index_or xs k d ≡ x) → xs ≡ replicate n x
+all_same [] zero d x e each = refl
+all_same [] (suc n) d x e each = absurd (omega (arith, e))
+all_same (y ∷ xs) zero d x e each = absurd (omega (arith, e))
+all_same (y ∷ xs) (suc n) d x e each = ap (λ z. z ∷ xs) (each 0 (omega arith))
+    ∙ ap (λ zs. x ∷ zs) (all_same xs n d x (omega (arith, e)) (λ k lt. each (suc k) (omega (arith, lt))))

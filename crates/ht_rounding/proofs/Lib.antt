@@ -9,3 +9,4 @@ mod FoundLanes
 mod Loaded
 mod Answered
 mod Labelling
+mod OnlyLemmas

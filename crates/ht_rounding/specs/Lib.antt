@@ -4,3 +4,4 @@ pub mod RowSteps
 pub mod InLanes
 pub mod Loading
 pub mod Labels
+pub mod Only

@@ -1,19 +1,19 @@
 //! The labels of eight jobs.
-ghost use Rattle.std.specs.Prelude.{◌≡◌, ◌<◌, ◌≤◌, ℕ, length, replicate, slice_index, slice_index_or, unwrap_or};
+ghost use Rattle.std.specs.Prelude.{◌≡◌, ◌<◌, ◌≤◌, ℕ, true, length, replicate, slice_index, slice_index_or, unwrap_or};
 ghost use Rattle.ht_map.specs.Gray.{label_of};
 ghost use Rattle.ht_metric.specs.Jobs.{JobView};
-ghost use Rattle.ht_rounding.specs.InLanes.{IsSmall, axes_of};
+ghost use Rattle.ht_rounding.specs.InLanes.{IsSmall};
 ghost use Rattle.ht_rounding.specs.Labels.{HasJob, IsLabelled, i_levels, label_by, q_levels};
 ghost use Rattle.ht_rounding.specs.Loading.{HaveStreams, IsPlain, no_job};
 
-use crate::block::{full_grid, has_small_diagonals, have_streams};
+use crate::block::{has_small_diagonals, have_streams, ladder_of};
 use crate::labels::labels;
 use crate::levels::Levels;
 use crate::loading::load;
 use crate::streams::{Channel, Samples, detect_four, detect_one, detect_three, detect_two};
 use crate::words::lesser;
 use ht_metric::Job;
-use ht_pam::Grid;
+use ht_pam::{Grid, Ladder};
 use ht_rate::Modulation;
 use std::simd::prelude::*;
 
@@ -184,13 +184,28 @@ fn levels_by(modulation: Modulation) -> (Levels, Levels)
     }
 }
 
+// Whether each stream of a grid has all these levels.
+#[inline(always)]
+fn has_all(grid: &Grid, streams: u8, i: Ladder, q: Ladder) -> bool
+    requires { streams ≡ length grid.now }
+    ensures { result ≡ true → grid.now ≡ replicate streams (record { i = i; q = q }) }
+{
+    for stream in 0..streams {
+        if grid.i_ladder(stream + 1) != i || grid.q_ladder(stream + 1) != q {
+            return false;
+        }
+    }
+    true
+}
+
 // 1 where a lane can answer a job whose constellations have all these levels, and 0 elsewhere.
 #[inline(always)]
-fn plainness(i: Levels, q: Levels, streams: u8, job: &Job, grid: &Grid) -> u32
-    requires { grid.now ≡ replicate streams (axes_of i q) }
+fn plainness(i: Levels, q: Levels, streams: u8, job: &Job) -> u32
+    requires { streams ≡ length job.now.system }
     ensures { 0 < result → IsPlain i q streams job.now }
 {
-    if job.grid().same(grid) && has_small_diagonals(job) {
+    let grid = job.grid();
+    if has_all(grid, streams, ladder_of(i), ladder_of(q)) && has_small_diagonals(job, streams) {
         1
     } else {
         0
@@ -201,14 +216,12 @@ fn plainness(i: Levels, q: Levels, streams: u8, job: &Job, grid: &Grid) -> u32
 #[inline(always)]
 fn plain_lanes(i: Levels, q: Levels, streams: u8, jobs: &[Job]) -> u32x8
     requires jobs { length jobs.now ≡ 8 }
-    requires some { 1 ≤ streams }
-    requires few { streams ≤ 4 }
+    requires streams { HaveStreams streams jobs.now }
     ensures { (k : ℕ) → k < 8 → 0 < slice_index result k → IsPlain i q streams (slice_index_or jobs.now k no_job) }
 {
-    let grid = full_grid(i, q, streams);
     let mut lanes = [0u32; 8];
     for k in 0..8 {
-        lanes[k] = plainness(i, q, streams, &jobs[k], &grid);
+        lanes[k] = plainness(i, q, streams, &jobs[k]);
     }
     u32x8::from_array(lanes)
 }
@@ -218,8 +231,6 @@ fn plain_lanes(i: Levels, q: Levels, streams: u8, jobs: &[Job]) -> u32x8
 fn gathered(i: Levels, q: Levels, streams: u8, jobs: &[Job]) -> Eight
     requires jobs { length jobs.now ≡ 8 }
     requires streams { HaveStreams streams jobs.now }
-    requires some { 1 ≤ streams }
-    requires few { streams ≤ 4 }
     ensures small { IsSmall result.channel }
     ensures jobs { (k : ℕ) → k < 8 → HasJob i q result streams k (slice_index_or jobs.now k no_job) }
 {
@@ -229,6 +240,26 @@ fn gathered(i: Levels, q: Levels, streams: u8, jobs: &[Job]) -> Eight
         samples: loaded.samples,
         plain: plain_lanes(i, q, streams, jobs),
     }
+}
+
+// The same, with code of its own for each number of streams.
+#[inline(always)]
+fn gathered_by(i: Levels, q: Levels, streams: u8, jobs: &[Job]) -> Eight
+    requires jobs { length jobs.now ≡ 8 }
+    requires streams { HaveStreams streams jobs.now }
+    ensures small { IsSmall result.channel }
+    ensures jobs { (k : ℕ) → k < 8 → HasJob i q result streams k (slice_index_or jobs.now k no_job) }
+{
+    if streams == 1 {
+        return gathered(i, q, 1, jobs);
+    }
+    if streams == 2 {
+        return gathered(i, q, 2, jobs);
+    }
+    if streams == 4 {
+        return gathered(i, q, 4, jobs);
+    }
+    gathered(i, q, streams, jobs)
 }
 
 // What lanes say where none is sure.
@@ -262,6 +293,6 @@ pub fn label_eight(modulation: Modulation, jobs: &[Job]) -> Labelled
         return unsure(streams);
     }
     let (i, q) = levels_by(modulation);
-    let eight = gathered(i, q, streams, jobs);
+    let eight = gathered_by(i, q, streams, jobs);
     label_lanes(modulation, streams, &eight)
 }

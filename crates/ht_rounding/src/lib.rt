@@ -14,6 +14,7 @@ mod eight;
 mod labels;
 mod levels;
 mod loading;
+mod only;
 mod rows;
 mod streams;
 #[cfg(test)]
@@ -23,6 +24,7 @@ mod words;
 pub use block::find_eight;
 pub use eight::{Eight, Labelled, label_eight, label_lanes};
 pub use levels::Levels;
+pub use only::find_only;
 pub use rows::{Parts, Reached};
 pub use streams::{
     Channel, Four, RowLanes, Samples, Three, Two, detect_four, detect_one, detect_three, detect_two,

@@ -11,9 +11,9 @@ use crate::hard_labels::{HardLabels, push_labels};
 use ht_capture::FrameHead;
 use ht_feed::{Gate, InFrame, Jobs, OpenGate, Work, is_hard};
 use ht_frames::{Kind, Tally, run_gated, tally_of};
-use ht_metric::{Found, Place};
+use ht_metric::{Found, Job, Place};
 use ht_rate::{Carrier, Modulation};
-use ht_rounding::{Labelled, label_eight};
+use ht_rounding::{Labelled, find_only, label_eight};
 use std::alloc::{AllocError, Global};
 
 /// Makes the tally of any block that knows its frame. Where the gate is open, jobs are found eight at a time, in lanes (crate
@@ -64,11 +64,12 @@ fn push_lane(labels: &mut Vec<u8>, lanes: &Labelled, k: usize) -> Result<(), All
     let third = octet(lanes.third[k]);
     let fourth = octet(lanes.fourth[k]);
     match lanes.streams {
-        1 => labels.push(first),
-        2 => labels.extend_from_slice(&[first, second]),
-        3 => labels.extend_from_slice(&[first, second, third]),
-        _ => labels.extend_from_slice(&[first, second, third, fourth]),
+        1 => labels.push(first)?,
+        2 => labels.extend_from_slice(&[first, second])?,
+        3 => labels.extend_from_slice(&[first, second, third])?,
+        _ => labels.extend_from_slice(&[first, second, third, fourth])?,
     }
+    Ok(())
 }
 
 // The labels of eight jobs of a block, from the one on that has `at` others before it, in the lanes that are sure.
@@ -159,6 +160,17 @@ fn add_found(tally: &mut Tally<HardLabels>, place: Place, found: &Found) -> Resu
     Ok(())
 }
 
+// What is found for a job by itself: the distance alone where it has one vector, as on a pilot.
+fn found_alone(job: &Job) -> Found
+    ensures found { result ≡ near job.now }
+    ensures below { result.distance < 2 ^ 66 }
+{
+    match find_only(job) {
+        Some(found) => found,
+        None => run_gated(&OpenGate, job),
+    }
+}
+
 // Adds the job of a block that has `at` others before it, found by itself, and answers its distance. The only error is lack of
 // memory.
 fn add_alone<B: Jobs>(
@@ -174,7 +186,7 @@ fn add_alone<B: Jobs>(
         (at + 1) tally.old.head tally.new.head tally.new.jobs tally.new.data_sum tally.new.pilot_sum tally.new.places tally.new.values.items) }
 {
     let job = block.job(at);
-    let found = run_gated(&OpenGate, &job);
+    let found = found_alone(&job);
     add_found(tally, job.place(), &found)?;
     Ok(found.distance)
 }
