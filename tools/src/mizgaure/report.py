@@ -409,13 +409,12 @@ def _recording_parts(recording: RecordingReport, figures: _Figures) -> List[str]
 
 
 def _finding_row(finding: Finding) -> List[str]:
-    low, high = finding.interval
     where = f" at {finding.where}" if finding.where else ""
     good = None if finding.verdict is None else finding.verdict == PASS
     asked = f"{finding.frames}, {finding.limit.frames} asked for" + ("" if finding.limit.named else "; the clause names no number")
     verdict = f'<span class="quiet">{_text(finding.unsure)}</span>' if finding.is_for_show else _verdict(good, finding.outcome)
     return [_text(finding.limit.test), finding.limit.clause, _text(finding.subject + where), _text(finding.bounds), f"{finding.value:.2f} {finding.unit}",
-            f"{low:.2f} to {high:.2f}" if finding.frames > 1 else "one frame gives none", asked, verdict]
+            finding.spread, asked, verdict]
 
 
 def _sweep_parts(name: str, found: Sweep, figures: _Figures) -> List[str]:
