@@ -218,6 +218,48 @@ def test_leakage_of_waveform(rate, over, subject, limit):
         assert len(outcomes) == 1 if subject != "20 MHz in one half of 40 MHz" else outcomes[0].value < -40 and outcomes[0].verdict == "pass"
 
 
+@pytest.mark.parametrize("rate", [Rate(20, 1), Rate(20, 9), Rate(40, 9)])
+def test_packets_in_greenfield_format(rate):
+    """They are measured as those in mixed format are: offset, clock, leakage, flatness and error are those that were put in."""
+    edge = 28 if rate.bandwidth == 20 else 58
+    leakage = -20 if rate.bandwidth == 20 else -25  # less than is taken for a level of the recorder
+    scene = Scene(greenfield=True, offset=9.0, clock=-7.0, leakage=leakage, gains=((-edge, -2.0), (edge, 2.0)), error=-24.0)
+    outcomes = {}
+    for each in findings(list(measured(of_scene(scene, rate, rate.bandwidth // 20, 5), shown=False)), CARRIER, 0.1, rate.bandwidth * 1e6):
+        outcomes.setdefault(each.limit.test, each)
+    assert {each.frames for each in outcomes.values()} == {5}
+    said = [outcomes[test].value for test in ("centre frequency", "symbol clock", "centre frequency leakage", "constellation error")]
+    assert said == pytest.approx([9, -7, leakage, -24], abs=0.25)
+    assert outcomes["spectral flatness"].where.startswith(f"subcarrier {edge} of")
+
+
+def test_what_is_left_out_is_counted(here):
+    """By its reason, where it has STBC as where it isn't received; what is measured is judged all the same."""
+    write_htsy("sent.htsy", frames_of(Rate(20, 1), 3, 300))
+    parts = []
+    for words in (["--stbc", "1"], ["--greenfield", "--antennas", "2"], ["--antennas", "2"]):
+        assert here("waveform", "sent.htsy", "-o", "part", "--force", "--raw", *words).returncode == 0
+        parts.append(open("part", "rb").read())
+    whole = b"".join(parts)
+    open("all", "wb").write(whole[: len(whole) - 16 * 1000])  # the last packet is cut off
+    done = here("verdict", "all", "--datatype", "cf32_le", "--channels", 2, "--frequency", "5.18e9")
+    lines = done.stdout.decode().splitlines()
+    assert done.returncode == 0 and lines[0].endswith(": 5 packets at 5180 MHz, 20 million samples a second"), done
+    assert lines[1] == "4 packets aren't measured: 1 cut off, 3 with STBC, whose points are known over two chains together alone"
+
+
+def test_short_frames_are_named():
+    """Frames of fewer than 16 symbols don't count for the constellation error, though they have an interval; one frame has none."""
+    short = [found(of_scene(Scene(error=-20), Rate(20, 3), 1, count, 100), "constellation error") for count in (1, 2, 22)]
+    assert [each.outcome for each in short] == [f"no verdict: 0 of 20 frames; {count} more {verb} fewer than 16 symbols"
+                                                for count, verb in ((1, "has"), (2, "have"), (22, "have"))]
+    assert [each.interval is None for each in short] == [True, False, False] and "(one frame gives no interval)" in str(short[0])
+    assert "one frame" not in str(short[1]) + str(short[2]) and short[0].record()["low"] is None and short[1].record()["low"] is not None
+    both = [*measured(of_scene(Scene(error=-20), Rate(20, 3), 1, 20, 200), shown=False), *measured(of_scene(Scene(error=-5), Rate(20, 3), 1, 9, 100), shown=False)]
+    outcome = next(each for each in findings(both, CARRIER, 0.1, 20e6) if each.limit.test == "constellation error")
+    assert outcome.frames == 20 and outcome.verdict == "pass" and outcome.value == pytest.approx(-20, abs=0.3)  # the short ones with their errors aren't in it
+
+
 def test_clocks_of_waveform():
     """The symbol clock is off by itself, and the carrier by itself."""
     for clock, offset, outcome in ((20.3, 0.0, ("pass", "fail")), (-19.7, 20.3, ("fail", "pass")), (None, 19.7, ("pass", "pass")), (0.0, -20.3, ("fail", "pass"))):
