@@ -148,10 +148,11 @@ class Measured:
     between: Optional[np.ndarray] = None
     values: Optional[np.ndarray] = None
 
-    def error(self, which: str) -> float:
-        """The r.m.s. error over ``data``, ``pilot`` or ``all`` subcarriers, as the sum of formula 20-89 over one frame."""
+    def error(self, which: str, stream: Optional[int] = None) -> float:
+        """The r.m.s. error over ``data``, ``pilot`` or ``all`` subcarriers, as the sum of formula 20-89 over one frame; of one stream where that is said."""
         chosen = {"data": ~self.rate.is_pilot, "pilot": self.rate.is_pilot, "all": np.ones(self.rate.subcarriers, bool)}[which]
-        return float(np.sqrt(np.mean(self.errors[:, chosen])))
+        errors = self.errors[:, chosen]
+        return float(np.sqrt(np.mean(errors if stream is None else errors[..., stream])))
 
 
 def measure(recording: Recording, packet: Packet, behind: int = 0) -> Measured:
@@ -532,9 +533,14 @@ def _leakage(powers: Sequence[np.ndarray], subject: str, most: float) -> Finding
     return Finding(limits.CENTRE_LEAKAGE, subject, (-np.inf, most), "dB", float(np.mean(values)), interval_of(values), len(values), f"antenna {antenna}")
 
 
+def long_enough(packets: Sequence[Measured]) -> List[Measured]:
+    """The packets that have as many symbols as the constellation error asks for."""
+    return [packet for packet in packets if packet.symbols >= limits.SYMBOLS_ASKED]
+
+
 def _constellation(packets: Sequence[Measured], rate: Rate) -> List[Finding]:
     """Over data, pilots and all subcarriers; the verdict is on all, over which formula 20-89 sums."""
-    long = [packet for packet in packets if packet.symbols >= limits.SYMBOLS_ASKED]
+    long = long_enough(packets)
     short = len(packets) - len(long)
     lacking = f"{short} more {'has' if short == 1 else 'have'} fewer than {limits.SYMBOLS_ASKED} symbols" if short else ""
     made = []
