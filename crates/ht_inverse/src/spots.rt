@@ -79,20 +79,14 @@ fn marked(lanes: u8x64, masks: u8x64) -> u64
 /// The first bits of a word: those of the labels at the spots from `first` on, where `base` is the number of the first label
 /// of the share's symbol.
 #[inline(always)]
-pub(crate) fn word_at(
-    labels: &[u8],
-    base: usize,
-    spots: &Spots,
-    first: usize,
-    count: usize,
-) -> u64
+pub(crate) fn word_at(labels: &[u8], base: usize, spots: &Spots, first: usize, count: usize) -> u64
     requires count { count ≤ 64 }
     requires offsets { first + 64 ≤ length spots.now.offsets.items }
     requires masks { first + 64 ≤ length spots.now.masks.items }
     requires there { (k : ℕ) → k < count → base + slice_index_or spots.now.offsets.items (first + k) 0 < length labels.now }
     ensures { (k : ℕ) → k < count → flag result k
         ≡ not (bit_and (slice_index_or labels.now (base + slice_index_or spots.now.offsets.items (first + k) 0) 0)
-            (slice_index_or spots.now.masks.items (first + k) 0) == 0) }
+        (slice_index_or spots.now.masks.items (first + k) 0) == 0) }
 {
     let offsets = &spots.offsets[first..first + LANES];
     let masks = u8x64::from_slice(&spots.masks[first..first + LANES]);
