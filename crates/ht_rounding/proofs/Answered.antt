@@ -92,3 +92,28 @@ one-below founds k found eight lt before below j less =
           subst (λ (m : ℕ). IsBelow (slice_index_or (set founds k found) m no_found)) same
           (subst IsBelow (sym (get_or-set_same founds k found no_found (omega (arith, eight, lt)))) below)
     ]
+
+-- one more lane of a job that it can answer
+pub one-plain : (i q : Levels) (n : ℕ) (jobs : List JobView) (lanes : List ℕ) (k : ℕ) (job : JobView) (plain : ℕ) → k < 8
+    → (length lanes ≡ 8) × ((j : ℕ) → j < k → 0 < slice_index lanes j → IsPlain i q n (slice_index_or jobs j no_job))
+    → job ≡ slice_index_or jobs k no_job → (0 < plain → IsPlain i q n job)
+    → (length (set lanes k plain) ≡ 8) × ((j : ℕ) → j < k + 1 → 0 < slice_index (set lanes k plain) j → IsPlain i q n (slice_index_or jobs j no_job))
+one-plain i q n jobs lanes k job plain lt before is can = (
+  length-set lanes k plain ∙ before.0,
+  λ j less some. elim (cases_lt j k) [
+    | inl earlier ↦ before.1 j earlier (subst (λ (m : ℕ). 0 < m) (get_or-set_other lanes k j plain 0 (λ same. omega (arith, same, earlier))) some)
+    | inr later ↦
+        let same : k ≡ j = omega (arith, less, later) in
+        let here : 0 < slice_index (set lanes k plain) k = subst (λ (m : ℕ). 0 < slice_index (set lanes k plain) m) (sym same) some in
+        let mine : 0 < plain = subst (λ (m : ℕ). 0 < m) (get_or-set_same lanes k plain 0 (omega (arith, before.0, lt))) here in
+        subst (λ (m : ℕ). IsPlain i q n (slice_index_or jobs m no_job)) same (subst (λ (o : JobView). IsPlain i q n o) is (can mine))
+  ],
+)
+
+-- a list whose elements are all the same
+pub all_same : {A : Type 0} (xs : List A) (n : ℕ) (d x : A) → n ≡ length xs → ((k : ℕ) → k < n → slice_index_or xs k d ≡ x) → xs ≡ replicate n x
+all_same [] zero d x e each = refl
+all_same [] (suc n) d x e each = absurd (omega (arith, e))
+all_same (y ∷ xs) zero d x e each = absurd (omega (arith, e))
+all_same (y ∷ xs) (suc n) d x e each = ap (λ z. z ∷ xs) (each 0 (omega arith))
+    ∙ ap (λ zs. x ∷ zs) (all_same xs n d x (omega (arith, e)) (λ k lt. each (suc k) (omega (arith, lt))))

@@ -8,3 +8,5 @@ mod Settling
 mod FoundLanes
 mod Loaded
 mod Answered
+mod Labelling
+mod OnlyLemmas

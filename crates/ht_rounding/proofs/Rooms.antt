@@ -36,7 +36,7 @@ first-by-margin l t d x m is margin some =
     ]
 
 -- an allowed level by its place
-among : (l : Levels) (y : ℤ) → has (full l) y ≡ true → IsLevel (size_of l) y
+pub among : (l : Levels) (y : ℤ) → has (full l) y ≡ true → IsLevel (size_of l) y
 among l y h = let f : ℤ → ℕ = λ z. 0 in place-of l y (in_order f (levels (full l)) y (has_sorted (full l) f y h))
 
 -- the lesser of two, and by how much one is over the other

@@ -3,3 +3,5 @@ pub mod Proposals
 pub mod RowSteps
 pub mod InLanes
 pub mod Loading
+pub mod Labels
+pub mod Only

@@ -18,7 +18,7 @@ use std::simd::prelude::*;
 use std::sync::ledger::Ledger;
 
 // The ladder that allows all these levels.
-fn ladder_of(levels: Levels) -> Ladder
+pub(crate) fn ladder_of(levels: Levels) -> Ladder
     ensures { result ≡ full levels }
 {
     match levels {
@@ -50,12 +50,14 @@ fn full_grid(i: Levels, q: Levels, streams: u8) -> Grid
     one.and(i, q).and(i, q).and(i, q)
 }
 
-// Whether the diagonals of a job are below 2^14.
-fn has_small_diagonals(job: &Job) -> bool
+// Whether the diagonals of a job of so many streams are below 2^14.
+#[inline(always)]
+pub(crate) fn has_small_diagonals(job: &Job, streams: u8) -> bool
+    requires { streams ≡ length job.now.system }
     ensures { result ≡ true → HaveSmall job.now.system }
 {
     let system = job.system();
-    for row in 0..system.streams() {
+    for row in 0..streams {
         if system.diagonal(row + 1) >= 1 << 14 {
             return false;
         }
@@ -64,7 +66,7 @@ fn has_small_diagonals(job: &Job) -> bool
 }
 
 // Whether each of eight jobs has so many streams.
-fn have_streams(jobs: &[Job], streams: u8) -> bool
+pub(crate) fn have_streams(jobs: &[Job], streams: u8) -> bool
     requires { length jobs.now ≡ 8 }
     ensures { result ≡ true → HaveStreams streams jobs.now }
 {
@@ -242,7 +244,7 @@ fn lane_or_search<L: Ledger>(
     ensures below { result.distance < 2 ^ 66 }
 {
     let is_sure = found.first.spare.to_array()[k] > 0;
-    if is_sure && job.grid().same(grid) && has_small_diagonals(job) {
+    if is_sure && job.grid().same(grid) && has_small_diagonals(job, job.system().streams()) {
         return found_at(found, streams, k);
     }
     find(job, steps)

@@ -1,15 +1,20 @@
 -- Jobs of a block that are found together.
-use Rattle.std.specs.Prelude.{◌≡◌, ℕ, ◌+◌, ◌<◌, List, length, take, slice_get, slice_index_or, IfSome}
+use Rattle.std.specs.Prelude.{◌≡◌, ℕ, ◌+◌, ◌<◌, List, length, take, slice_get, slice_index, IfSome}
 use Rattle.ht_capture.specs.declared.items.FrameHead.{FrameHead}
-use Rattle.ht_metric.specs.Jobs.{JobView, near}
-use Rattle.ht_metric.specs.declared.found.Found.{Found}
+use Rattle.ht_metric.specs.Jobs.{JobView}
+use Rattle.ht_pam.specs.declared.point.Point.{Point}
 use Rattle.ht_frames.specs.Tallies.{IsTally}
 use Rattle.ht_results.specs.Folding.{label_plan}
-use Rattle.ht_rounding.specs.Loading.{no_found}
+use Rattle.ht_rounding.specs.declared.eight.Labelled.{Labelled}
+use Rattle.ht_rounding.specs.Labels.{IsLabelled}
 
--- what was found for eight jobs, from the one on that has so many others before it
-abbrev pub AreFoundFrom : List JobView → ℕ → List Found → Type 0
-AreFoundFrom jobs at founds = (k : ℕ) → k < 8 → IfSome (slice_get jobs (at + k)) (λ job. slice_index_or founds k no_found ≡ near job)
+-- lane k, where it is sure, has the distance and the labels of the job that has so many others before it
+abbrev pub IsLabelledAt : (Point → ℕ) → List JobView → ℕ → Labelled → ℕ → Type 0
+IsLabelledAt label jobs at lanes k = IfSome (slice_get jobs at) (λ job. 0 < slice_index lanes.sure k → IsLabelled label lanes k job)
+
+-- the same of eight jobs, from the one on that has so many others before it
+abbrev pub AreLabelledFrom : (Point → ℕ) → List JobView → ℕ → Labelled → Type 0
+AreLabelledFrom label jobs at lanes = (k : ℕ) → k < 8 → IsLabelledAt label jobs (at + k) lanes k
 
 -- these are the numbers, places and labels of a tally of the first jobs of a block, of a frame with this head
 pub record HasFirst (jobs : List JobView) (first : ℕ) (head own : FrameHead) (number data_sum pilot_sum : ℕ) (places labels : List ℕ) : Type 0 where

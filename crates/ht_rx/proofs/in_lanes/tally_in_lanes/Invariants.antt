@@ -1,11 +1,8 @@
-use Rattle.std.proofs.Common.{◌≡◌, ◌*◌, length}
+use Rattle.std.proofs.Common.{◌*◌}
 use Rattle.ht_rx.specs.InLanes.{HasFirst}
 use Rattle.ht_rx.proofs.in_lanes.tally_in_lanes.Given as goal
 
 -- the eights so far were added
 abbrev pub invariant-loop-eight : goal.invariant-loop-eight
-invariant-loop-eight g l = record {
-  founds : length l.founds ≡ 8;
-  first : HasFirst (g.B.Jobs.jobs l.fn.block)
-      (8 * l.eight) l.fn.head l.tally.head l.tally.jobs l.tally.data_sum l.tally.pilot_sum l.tally.places l.tally.values.items;
-}
+invariant-loop-eight g l = HasFirst (g.B.Jobs.jobs l.fn.block)
+    (8 * l.eight) l.fn.head l.tally.head l.tally.jobs l.tally.data_sum l.tally.pilot_sum l.tally.places l.tally.values.items

@@ -1,6 +1,6 @@
-use Rattle.std.proofs.Common.{◌+◌}
+use Rattle.std.proofs.Common.{◌≡◌, ◌+◌}
 use Rattle.ht_rx.specs.InLanes.{HasFirst}
-use Rattle.ht_rx.proofs.in_lanes.add_eight.Given as goal
+use Rattle.ht_rx.proofs.in_lanes.add_lanes.Given as goal
 
 -- the jobs so far were added
 abbrev pub invariant-loop-k : goal.invariant-loop-k

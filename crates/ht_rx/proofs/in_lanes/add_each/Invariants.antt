@@ -1,5 +1,5 @@
 use Rattle.ht_rx.specs.InLanes.{HasFirst}
-use Rattle.ht_rx.proofs.in_lanes.add_rest.Given as goal
+use Rattle.ht_rx.proofs.in_lanes.add_each.Given as goal
 
 -- the jobs so far were added
 abbrev pub invariant-loop-at : goal.invariant-loop-at
