@@ -31,7 +31,7 @@ use Rattle.ht_weigh.specs.Walks.{Tells, TellsLabel, TellsStream, TellsBehind, Te
 use Rattle.ht_weigh.proofs.Lowered.{Nearer, lowered-not, lowered-then, lowered-as}
 
 -- what a level costs
-abbrev at_cost : ℤ → ℕ → ℤ → ℕ
+abbrev pub at_cost : ℤ → ℕ → ℤ → ℕ
 at_cost t d x = square (t -ℤ (pos d *ℤ x))
 
 -- a ladder as a coordinate
@@ -47,10 +47,10 @@ pub first_has : (l : Rungs) (t : ℤ) (d : ℕ) → IsLadder l → has l (first_
 first_has l t d ladder = sorted_has l (gap t d) (first_of l t d) (first_among (nearest_first (gap t d) (levels l)) (walk_some l (gap t d) ladder))
 
 -- each half has a level on both axes
-unfoldable is_ladder : Rungs → Bool
+unfoldable pub is_ladder : Rungs → Bool
 is_ladder l = ((nat_eq l.size 1 || nat_eq l.size 2) || (nat_eq l.size 4 || nat_eq l.size 8)) && (nat_lt 0 l.mask && nat_lt l.mask (2 ^ l.size))
 
-ladder_from : (l : Rungs) → is_ladder l ≡ true → IsLadder l
+pub ladder_from : (l : Rungs) → is_ladder l ≡ true → IsLadder l
 unfolding is_ladder
 ladder_from l e =
     let size = (nat_eq l.size 1 || nat_eq l.size 2) || (nat_eq l.size 4 || nat_eq l.size 8) in
@@ -413,6 +413,10 @@ nearest_is m d p a b n u v re im x y is_im is_re is_x is_y cost_q cost_i sum =
     let i_is : b ≡ first_cost (axes_of m).i re d =
     cost_i ∙ ap (λ (t : ℤ). at_cost t d y) is_re ∙ ap (at_cost re d) is_y in
     omega (arith, sum, q_is, i_is)
+
+-- what its levels cost
+pub first_costs : (l : Rungs) (d a : ℕ) (u t x : ℤ) → u ≡ t → x ≡ first_of l t d → a ≡ square (u -ℤ (pos d *ℤ x)) → a ≡ first_cost l t d
+first_costs l d a u t x is_target is_level cost = cost ∙ ap (λ (v : ℤ). at_cost v d x) is_target ∙ ap (at_cost t d) is_level
 
 -- the nearest point has a label
 pub has_label : (m : Modulation) (re im : ℤ) (d : ℕ) → label_of m (point (first_of (axes_of m).i re d) (first_of (axes_of m).q im d)) ≡ None → ⊥
