@@ -234,6 +234,10 @@ module _ (m : Modulation) (q i : Real) (s : List ℤ) (re im : ℤ) (d p : ℕ) 
       let u = under v h in
       omega (arith, u.distance_is, least (axes_of m).q im d u.x u.has_x, least (axes_of m).i re d u.y u.has_y)
 
+  pub one_there : Among below (first_of (axes_of m).i re d ∷ first_of (axes_of m).q im d ∷ s, nearest)
+  one_there = there (first_of (axes_of m).q im d) (first_of (axes_of m).i re d) (first_has (axes_of m).q im d first.good_q)
+      (first_has (axes_of m).i re d first.good_i)
+
   -- where that isn't below the clip, nothing has to be lowered
   pub far : (clip t : ℕ) (a : List ℕ) → AreWithin clip a → t ≡ nearest → clip ≤ t → IsLowered (Tells m below) a a
   far clip t a within is beyond =
@@ -413,6 +417,10 @@ nearest_is m d p a b n u v re im x y is_im is_re is_x is_y cost_q cost_i sum =
     let i_is : b ≡ first_cost (axes_of m).i re d =
     cost_i ∙ ap (λ (t : ℤ). at_cost t d y) is_re ∙ ap (at_cost re d) is_y in
     omega (arith, sum, q_is, i_is)
+
+-- what the nearest level of a ladder costs, as it is computed
+pub first_cost_is : (k l : Rungs) (d n : ℕ) (u t : ℤ) → k ≡ l → u ≡ t → n ≡ first_cost k u d → n ≡ first_cost l t d
+first_cost_is k l d n u t same passed is = is ∙ ap (λ (v : ℤ). first_cost k v d) passed ∙ ap (λ (r : Rungs). first_cost r t d) same
 
 -- what its levels cost
 pub first_costs : (l : Rungs) (d a : ℕ) (u t x : ℤ) → u ≡ t → x ≡ first_of l t d → a ≡ square (u -ℤ (pos d *ℤ x)) → a ≡ first_cost l t d

@@ -1,17 +1,20 @@
 //! The first stream in closed form.
-ghost use Rattle.std.specs.Prelude.{◌≡◌, ◌<◌, ◌≤◌, ◌+◌, ◌^◌, length, not, unsigned_abs};
+ghost use Rattle.std.specs.Prelude.{◌≡◌, ◌<◌, ◌≤◌, ◌+◌, ◌^◌, length, not, replicate, unsigned_abs};
+ghost use Rattle.ht_rate.specs.declared.kinds.Modulation.{Modulation};
 ghost use Rattle.ht_rate.specs.Schemes.{bits_of};
 ghost use Rattle.ht_map.specs.Constellation.{axes_of};
 ghost use Rattle.ht_map.specs.Gray.{label_bit, point_of};
+ghost use Rattle.ht_metric.specs.Jobs.{near};
 ghost use Rattle.ht_sphere.specs.Coordinates.{first_of};
 ghost use Rattle.ht_weigh.specs.Leasts.{place_of, IsOf, IsLowered};
 ghost use Rattle.ht_weigh.specs.Walks.{first_cost, half_cost, IsAcross, IsNamed, TellsOthers};
 
 use crate::leasts::{half, lower};
 use crate::streams::is_one;
-use ht_pam::{Axes, Point};
+use ht_metric::Job;
+use ht_pam::{Axes, Ladder, Point};
 use ht_rate::Modulation;
-use ht_sphere::remainder::{Remainder, cost};
+use ht_sphere::remainder::{Remainder, cost, remainder_of};
 
 // The nearest levels with another bit: a table for one, two and three bits that name a level, with a row for each of these bits,
 // and in it a level for each name. Of the levels named by 000, 001, 011, 010, 110, 111, 101 and 100, from -7 to 7, that is
@@ -42,6 +45,28 @@ fn across(count: u8, bit: u8, name: u8) -> i8
     ensures bound { unsigned_abs result ≤ 7 }
 {
     ACROSS[usize::from(count - 1)][usize::from(bit)][usize::from(name)]
+}
+
+// What the nearest level of a ladder leaves of a target, squared.
+#[inline(always)]
+fn nearest_cost(ladder: Ladder, target: i64, d: u16) -> u64
+    requires { unsigned_abs target ≤ 2 ^ 31 + 2 ^ 21 }
+    ensures value { result ≡ first_cost ladder target d }
+    ensures bound { result ≤ 2 ^ 62 + 2 ^ 55 }
+{
+    cost(d, target, ladder.nearest(target, u32::from(d)))
+}
+
+// The least distance of a job of one stream, on which I and Q stand alone.
+pub(crate) fn least_alone(job: &Job) -> u128
+    requires one { length job.now.system ≡ 1 }
+    ensures distance { (m : Modulation) → job.now.grid ≡ replicate (length job.now.grid) (axes_of m) → result ≡ (near job.now).distance }
+    ensures below { result < 2 ^ 66 }
+{
+    let left = remainder_of(job, 1, &[0, 0]);
+    let of_i = nearest_cost(job.grid().i_ladder(1), left.re, left.d);
+    let of_q = nearest_cost(job.grid().q_ladder(1), left.im, left.d);
+    u128::from(of_q + of_i)
 }
 
 // The nearest point of the first stream: the nearest level of I and that of Q.

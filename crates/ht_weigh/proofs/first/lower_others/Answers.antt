@@ -13,7 +13,8 @@ loop-bit-preserved c =
       size = c.lower.ensures.size ∙ c.loop-bit.invariant.size;
       lowered = others_more c.args.modulation c.args.label c.args.partial _ _ _ c.loop-bit.bit _ _ _ _ value c.loop-bit.invariant.lowered
           (other_told c.args.modulation c.loop-bit.bit c.from.result (not c.is_one-value.result) c.args.partial c.from-in-loop-bit.result
-          c.other_cost-cost.result _ _ _ _ _ _ _ value c.other_cost-cost.ensures.value c.from-in-loop-bit.ensures c.half.ensures.value c.from.ensures c.lower.ensures);
+          c.other_cost-cost.result _ _ _ _ _ _ _ value c.other_cost-cost.ensures.value c.from-in-loop-bit.ensures c.half.ensures.value c.from.ensures
+          c.lower.ensures);
     }
 
 pub returns : goal.returns

@@ -14,7 +14,8 @@ returns-then-bit-first-clause-value c =
     ∙ ap (λ (n : ℕ). bits_of m - n / 2) c.label_bits-last.ensures.value in
     let other = i_other m c.args.bit c.args.label count _ c.args.left.now.re c.args.left.now.im c.across-level.result c.args.left.now.d
     c.if-bit-first.true count_is c.requires.named.within
-    (ap (λ (n : ℕ). c.args.label / n) (levels_is m c.label_bits-last.result c.label_bits-last.ensures.value)) c.requires.named.i c.across-level.ensures.across in
+    (ap (λ (n : ℕ). c.args.label / n) (levels_is m c.label_bits-last.result c.label_bits-last.ensures.value)) c.requires.named.i
+    c.across-level.ensures.across in
     omega (
       arith,
       other,
