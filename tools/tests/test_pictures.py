@@ -177,7 +177,8 @@ def test_the_data_behind_pictures_of_a_frame():
     jobs = zero_forcing(frame)
     data = ~frame.rate.is_pilot
     numbers = frame.rate.frequencies[data]
-    for draw, cells in ((pictures.evm_over_subcarriers, decibels(evm(frame).cells)), (pictures.residual_over_subcarriers, 100 * residual_ratio(frame, jobs).cells)):
+    for draw, cells in ((pictures.evm_over_subcarriers, decibels(evm(frame).cells)),
+                        (pictures.residual_over_subcarriers, 100 * residual_ratio(frame, jobs).cells)):
         curves = [line for line in draw(frame, jobs).axes[0].lines if len(line.get_xdata()) > 2]
         for stream in range(2):
             halves = [(line.get_xdata(), line.get_ydata()) for line in curves if line.get_color() == pictures.STREAM_STYLES[stream][0]]
@@ -186,9 +187,9 @@ def test_the_data_behind_pictures_of_a_frame():
             assert np.array_equal(places[seen], numbers) and values[seen] == pytest.approx(cells[data, stream])
     (panel,) = pictures.distance_histogram(frame, jobs).axes
     pilot = frame.rate.is_pilot[jobs.carrier]
-    steps = {patch.get_label().partition(",")[0]: patch.get_xy()[:, 1] for patch in panel.patches if patch.get_label().endswith(f"{jobs.distance[~pilot].mean():.4g}")}
-    shares = steps["data subcarriers"]
-    assert shares.max() == pytest.approx(100 / np.count_nonzero(~pilot) * np.histogram(jobs.distance[~pilot], np.linspace(0, np.quantile(jobs.distance, 0.995), 41))[0].max())
+    (shares,) = (patch.get_xy()[:, 1] for patch in panel.patches if patch.get_label().startswith("data subcarriers"))
+    counts, _ = np.histogram(jobs.distance[~pilot], np.linspace(0, np.quantile(jobs.distance, 0.995), 41))
+    assert shares.max() == pytest.approx(100 / np.count_nonzero(~pilot) * counts.max())
 
 
 def verdict_packets(count=4):
@@ -261,7 +262,7 @@ def test_delays_and_phases_of_verdicts():
 
 @pytest.mark.parametrize("greenfield", [False, True])
 def test_the_data_behind_pictures_of_a_recording(greenfield, tmp_path):
-    """The preamble's correlations are large where its fields repeat, and nowhere else, and points stand where they were sent once phase and timing are tracked."""
+    """The preamble's correlations are large where its fields repeat, and nowhere else, and points stand where they were sent once they are tracked."""
     recording = of_scene(Scene(greenfield=greenfield, offset=5.0, clock=-20.0), Rate(20, 3), 1, 1, 1500)
     figure = air_pictures.preamble(recording, 0, "air")
     amplitude, correlations = figure.axes
