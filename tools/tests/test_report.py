@@ -242,6 +242,7 @@ def test_a_report_of_recordings_alone(here, tmp_path, radio):
     page = Page()
     page.feed((tmp_path / "it.html").read_text())
     page.close()
+    assert '<span class="open">no verdict: 3 of 20 frames</span>' in (tmp_path / "it.html").read_text()
     assert "Recordings, measured" in page.text and "the program takes no part in it" in page.text and "tested and not proved" in page.text
     assert "radio found" not in page.text and "SHA-256 of the program" not in page.text and radio.path not in page.text
     assert "3 measured; 3 packets aren't measured: 3 with STBC" in page.text and "3 octets at its end are no whole sample" in page.text
