@@ -1,5 +1,7 @@
 """Where packets are found: beside levels and neighbours, in noise, in both halves, in pieces, and when one of them goes wrong."""
 
+import os
+import runpy
 import subprocess
 import sys
 from dataclasses import replace
@@ -336,10 +338,10 @@ def test_the_reserved_bit_costs_no_error(reserved):
                                         (40, "a step in time at data symbol")])
 def test_a_step_within_a_packet(lost, said):
     """Samples are lost at two thirds of the packet: where HT-SIG says that it has N symbols, at about 2 N / 3 - 3."""
-    frames = symbols_of((3, 7, 15), 800, 9)
+    frames = symbols_of((3, 7, 15), 800, 6)
     found = found_in(frames, Scene(snr=30.0, offset=13.0, lost=lost), 2)
     told = [one for one in found if said and one.remarks.startswith(said)]
-    assert len(found) == 9 and (len(told) >= 7 if said else not any(one.remarks for one in found))
+    assert len(found) == 6 and (len(told) >= 5 if said else not any(one.remarks for one in found))
     for one in told:
         symbols = one.frame.rate.symbols(800)
         assert one.step.symbol == pytest.approx(2 * symbols / 3 - 3, abs=2 + symbols / 10)
@@ -348,8 +350,8 @@ def test_a_step_within_a_packet(lost, said):
 @pytest.mark.parametrize("lost", [4, 5, 9])
 def test_a_step_that_pilots_hardly_show(lost):
     """Pilots 14 subcarriers apart turn nearly as often by 4, 5 and 9 samples as by none (4 * 14 / 64 = 0.9 turns): no other number is told."""
-    found = found_in(symbols_of((3, 7, 15), 800, 9), Scene(snr=30.0, offset=13.0, lost=lost), 2)
-    assert len(found) == 9 and all(one.step is None or one.step.samples in (None, lost) for one in found)
+    found = found_in(symbols_of((3, 7, 15), 800, 6), Scene(snr=30.0, offset=13.0, lost=lost), 2)
+    assert len(found) == 6 and all(one.step is None or one.step.samples in (None, lost) for one in found)
 
 
 @pytest.mark.parametrize("symbols, place", [(7, 2), (7, 4), (30, 2), (30, 27), (200, 100)])
@@ -368,7 +370,18 @@ def test_a_step_in_a_few_symbols(symbols, place, samples):
     assert track.step_of(still, np.full((symbols, 4), 1000.0), turns, times, 0.0) is None
 
 
-def test_the_script_of_the_page():
-    """docs/pictures/front says what it measures; it isn't run here."""
-    done = subprocess.run([sys.executable, str(TOP / "docs" / "pictures" / "front"), "--help"], capture_output=True, text=True, check=False)
-    assert done.returncode == 0 and "usage: docs/pictures/front" in done.stdout
+@pytest.mark.parametrize("script", ["docs/pictures/front", "bench/recordings"])
+def test_the_scripts_of_the_page(script):
+    """They say what they measure; they aren't run here."""
+    done = subprocess.run([sys.executable, str(TOP / script), "--help"], capture_output=True, text=True, check=False)
+    assert done.returncode == 0 and f"usage: {script}" in done.stdout
+
+
+def test_memory_on_sixteen_antennas():
+    """At 200 million samples a second, by the script of the page: no packet is found in noise, in less than 300 MB."""
+    if not os.path.exists("/proc/self/status"):
+        pytest.skip("the most memory of a process is told by Linux")
+    number = next(n for n, (_, rate, antennas, *_) in enumerate(runpy.run_path(str(TOP / "bench" / "recordings"))["MEMORY"]) if (rate, antennas) == (200, 16))
+    done = subprocess.run([sys.executable, str(TOP / "bench" / "recordings"), "--child", str(number), "-"], capture_output=True, text=True, check=False)
+    found, most = done.stdout.split()
+    assert found == "0" and 50e3 < int(most) < 300e3

@@ -191,17 +191,28 @@ class Resampled(Recording):
                 samples = np.zeros((antennas, high - low), np.complex64)
                 samples[:, max(0, -low) : max(0, -low) + there.shape[1]] = there
             made[:, number - begin : stop - begin] = tiles.made_of(np.ascontiguousarray(samples), stop - number)
-            spoiled = spoiled or self._spoiled
+            if self._spoiled:
+                spoiled = True
+                gone = self._places(np.flatnonzero((there == 0).any(axis=0)) + max(0, low), number * tiles.size, stop * tiles.size)
+                made[:, number - begin : stop - begin].reshape(antennas, -1)[:, gone] = 0
         self._spoiled = spoiled
         if self.length != ENDLESS:
             count = max(0, min(count, self.length - first))
         front = first - begin * tiles.size
         return made.reshape(antennas, -1)[:, front : front + count].copy()
 
+    def _places(self, instants: np.ndarray, begin: int, end: int) -> np.ndarray:
+        """The instants on both sides of some of the source, from ``begin`` up to ``end``, from which on they are counted."""
+        places = instants * self._ratio.numerator // self._ratio.denominator
+        both = np.concatenate((places, places + 1))
+        return np.unique(both[(both >= begin) & (both < end)]) - begin
+
     def _turned(self, first: int, count: int) -> np.ndarray:
-        """Samples of the source with the new middle."""
+        """Samples of the source with the new middle; where parts of the source aren't finite, 0."""
         samples = self.source.read(first, count)
         self._spoiled = self.source.not_finite
+        if self._spoiled:
+            samples[:, ((samples.real == 0) | (samples.imag == 0)).any(axis=0)] = 0
         if self.shift:
             begin = first // TURNS
             blocks = np.arange(begin, -(-(first + samples.shape[1]) // TURNS)) * TURNS
