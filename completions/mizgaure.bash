@@ -32,6 +32,7 @@ _mizgaure() {
       picture:--radio | picture:--frame | picture:--answers | picture:--sample-rate | picture:--channels | picture:--variable) ;;
       report:--radio | report:-o | report:--output | report:--theirs | report:--sweep | report:--frequency | report:--reference-ppm | report:--shift | report:--pictures | report:--title) ;;
       waveform:--datatype) words='cf32_le ci16_le' ;;
+      waveform:--bits) words='2 3 4 5 6 7 8 9 10 11 12 13 14 15 16' ;;
       waveform:--guard) words='long short' ;;
       waveform:--stbc) words='0 1 2' ;;
       waveform:--rate) words='20 40 60 80 100 120 200' ;;
@@ -65,7 +66,7 @@ _mizgaure() {
             picture) words='--radio --force --frame --answers --datatype --sample-rate --channels --variable --help' ;;
             report) words='--radio --force --output --theirs --sweep --frequency --reference-ppm --shift --pictures --title --help' ;;
             zero-forcing) words='--help' ;;
-            waveform) words='--force --output --datatype --raw --guard --aggregated --stbc --greenfield --antennas --spread --offset --frequency --snr --gap --rate --dc --dc-drift --neighbour --nonadjacent --clock --leakage --filter --gains --error --lost --seed --help' ;;
+            waveform) words='--force --output --datatype --bits --raw --guard --aggregated --stbc --greenfield --antennas --spread --offset --frequency --snr --gap --rate --dc --dc-drift --neighbour --nonadjacent --clock --leakage --filter --gains --error --lost --seed --help' ;;
             record) words='--force --datatype --sample-rate --channels --variable --shift --channel --processes --from --to --packets --output --gain --legacy --annotate --csv --json --help' ;;
             receive) words='--radio --force --datatype --sample-rate --channels --variable --shift --channel --processes --from --to --packets --output --soft --full-scale --sent --truth --csv --json --help' ;;
             verdict) words='--force --datatype --sample-rate --channels --variable --shift --channel --processes --frequency --reference-ppm --complete --csv --json --help' ;;

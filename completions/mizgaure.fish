@@ -143,6 +143,7 @@ complete -c mizgaure -n '__fish_seen_subcommand_from report' -l title -x -d 'the
 complete -c mizgaure -n '__fish_seen_subcommand_from waveform' -l force -d 'overwrite a file that is there already'
 complete -c mizgaure -n '__fish_seen_subcommand_from waveform' -s o -l output -r -d 'the name of a SigMF recording (a .sigmf-meta and a .sigmf-data), or with --raw of a file of samples'
 complete -c mizgaure -n '__fish_seen_subcommand_from waveform' -l datatype -x -a 'cf32_le ci16_le' -d 'of the samples'
+complete -c mizgaure -n '__fish_seen_subcommand_from waveform' -l bits -x -a '2 3 4 5 6 7 8 9 10 11 12 13 14 15 16' -d 'round the parts of samples to so many bits, 2 to 16, as a converter does'
 complete -c mizgaure -n '__fish_seen_subcommand_from waveform' -l raw -d 'write the samples alone'
 complete -c mizgaure -n '__fish_seen_subcommand_from waveform' -l guard -x -a 'long short' -d 'the guard interval of data symbols'
 complete -c mizgaure -n '__fish_seen_subcommand_from waveform' -l aggregated -d 'say in HT-SIG that the octets are an A-MPDU'
