@@ -163,7 +163,8 @@ steps-explained pattern received u new t next start stop code base i state input
     (omega (arith, begins)) (omega (arith, next-is)) (omega (arith, stop-is))
     (new-is ∙ sym (append_assoc u (bit ∷ []) (flags_of input (j + 1) (length kepts))))
     same.2
-    (explained-more pattern received u (u ++ bit ∷ []) t (t + 1) start (start + 2) state (moved state bit) Both bit refl kept-is refl (sym one) within refl refl (
+    (explained-more pattern received u (u ++ bit ∷ []) t (t + 1) start (start + 2) state (moved state bit) Both bit refl kept-is refl
+    (sym one) within refl refl (
       ap (λ (n : ℕ). get_or received n None) begins ∙ (known i (omega arith) ∙ ap (λ (b : Bool). Some b) same.0),
       ap (λ (n : ℕ). get_or received n None) next-place ∙ (known (i + 1) (omega arith) ∙ ap (λ (b : Bool). Some b) same.1),
     ) was)

@@ -118,7 +118,8 @@ fn explain_rest(
     requires room { steps ≤ vec_capacity input.old }
     requires within { first ≤ steps }
     requires so_far { IsExplained pattern (packed words.now (sent_count pattern steps)) input.old.items first begin before }
-    ensures explained { IfSome result (λ after. IsExplained pattern (packed words.now (sent_count pattern steps)) input.new.items steps (sent_count pattern steps) after) }
+    ensures explained { IfSome result (λ after.
+        IsExplained pattern (packed words.now (sent_count pattern steps)) input.new.items steps (sent_count pattern steps) after) }
     ensures capacity { vec_capacity input.new ≡ vec_capacity input.old }
 {
     let count = ht_conv::sent(pattern, steps as u32) as usize;

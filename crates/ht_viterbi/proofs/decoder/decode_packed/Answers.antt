@@ -18,5 +18,6 @@ decode_in_lanes-requires-clause-received c =
 pub returns-then-explain_packed : goal.returns-then-explain_packed
 returns-then-explain_packed c =
     found-sent c.args.steps c.args.pattern (packed c.args.words.now (sent_count c.args.pattern c.args.steps)) c.explain_packed.new.input.items c.from.result
-    c.requires.least (c.explain_packed.ensures.explained c.if-explain_packed.true) (c.explain_packed.ensures.terminated c.if-explain_packed.true c.requires.least)
+    c.requires.least (c.explain_packed.ensures.explained c.if-explain_packed.true)
+    (c.explain_packed.ensures.terminated c.if-explain_packed.true c.requires.least)
     c.from.ensures

@@ -17,7 +17,8 @@ pub loop-turn-preserved : goal.loop-turn-preserved
 loop-turn-preserved c =
     let was = c.loop-turn.invariant in
     record {
-      explained = turn-explained c.args.pattern c.args.words.now c.args.steps c.args.at c.loop-turn.turn (get_or c.args.words.now c.args.at 0) c.places_of_turn-width.result _ c.loop-turn.state
+      explained = turn-explained c.args.pattern c.args.words.now c.args.steps c.args.at c.loop-turn.turn
+          (get_or c.args.words.now c.args.at 0) c.places_of_turn-width.result _ c.loop-turn.state
           c.in-Some.turned.input c.in-Some.turned.state c.loop-turn.input.items c.push_flags.new.input.items c.requires.within
           (omega (arith, c.loop-turn-test.true, c.turns_of_word-turn-end.ensures)) refl
           c.places_of_turn-width.ensures (ap (bit_and (get_or c.args.words.now c.args.at 0 / 2 ^ (c.loop-turn.turn * c.places_of_turn-width.result)))
