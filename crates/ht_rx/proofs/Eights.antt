@@ -1,6 +1,35 @@
 -- Eight jobs of a block that are found together.
-use Rattle.std.proofs.Common.{◌≡◌, ℕ, zero, suc, ◌+◌, ◌%◌, ◌<◌, ◌≤◌, List, [], ◌∷◌, ◌++◌, Option, Some, IfSome, length, length-append, take, map, get_or, slice_get,
-    slice_index, slice_index_or, arith, ap, refl, subst, sym, ◌∙◌}
+use Rattle.std.proofs.Common.{
+  ◌≡◌,
+  ℕ,
+  zero,
+  suc,
+  ◌+◌,
+  ◌%◌,
+  ◌<◌,
+  ◌≤◌,
+  List,
+  [],
+  ◌∷◌,
+  ◌++◌,
+  Option,
+  Some,
+  IfSome,
+  length,
+  length-append,
+  take,
+  map,
+  get_or,
+  slice_get,
+  slice_index,
+  slice_index_or,
+  arith,
+  ap,
+  refl,
+  subst,
+  sym,
+  ◌∙◌,
+}
 use Rattle.std.specs.List.{range_with_len}
 use Rattle.std.proofs.lemmas.List.{length-map}
 use Rattle.std.proofs.lemmas.List.FromFn.{length-range_with_len}
@@ -28,7 +57,7 @@ module _ (label : Point → ℕ) (lanes : Labelled) where
 
   pub eight_labelled : (jobs : List JobView) (at : ℕ) (a b c d e f g h : JobView)
       → Some a ≡ slice_get jobs at → Some b ≡ slice_get jobs (at + 1) → Some c ≡ slice_get jobs (at + 2) → Some d ≡ slice_get jobs (at + 3)
-          → Some e ≡ slice_get jobs (at + 4) → Some f ≡ slice_get jobs (at + 5) → Some g ≡ slice_get jobs (at + 6) → Some h ≡ slice_get jobs (at + 7)
+      → Some e ≡ slice_get jobs (at + 4) → Some f ≡ slice_get jobs (at + 5) → Some g ≡ slice_get jobs (at + 6) → Some h ≡ slice_get jobs (at + 7)
       → ((k : ℕ) → k < 8 → Says k (slice_index_or (a ∷ b ∷ c ∷ d ∷ e ∷ f ∷ g ∷ h ∷ []) k no_job)) → AreLabelledFrom label jobs at lanes
   eight_labelled jobs at a b c d e f g h pa pb pc pd pe pf pg ph says zero lt = one_labelled jobs at 0 at a (omega arith) pa (says 0 lt)
   eight_labelled jobs at a b c d e f g h pa pb pc pd pe pf pg ph says (suc zero) lt = one_labelled jobs at 1 (at + 1) b (omega arith) pb (says 1 lt)

@@ -173,11 +173,7 @@ fn found_alone(job: &Job) -> Found
 
 // Adds the job of a block that has `at` others before it, found by itself, and answers its distance. The only error is lack of
 // memory.
-fn add_alone<B: Jobs>(
-    tally: &mut Tally<HardLabels>,
-    block: &B,
-    at: u16,
-) -> Result<u128, AllocError>
+fn add_alone<B: Jobs>(tally: &mut Tally<HardLabels>, block: &B, at: u16) -> Result<u128, AllocError>
     requires within { at < length (B.jobs block.now) }
     requires few { length (B.jobs block.now) < 2 ^ 16 }
     requires is { HasFirst (B.jobs block.now) at tally.old.head tally.old.head tally.old.jobs tally.old.data_sum tally.old.pilot_sum tally.old.places
