@@ -1,9 +1,10 @@
 //! Hostile jobs, answered by lanes or the search, against the detector that tries all vectors.
 ghost use Rattle.std.specs.Prelude.{◌≡◌, ◌<◌, length};
 
-use crate::find_eight;
+use crate::{find_eight, find_only, label_eight};
 use ht_metric::{Found, Job, Place, Sample, System, Tap, Triangle, Vector, plain_nearest};
-use ht_pam::{Grid, Ladder, Steps};
+use ht_pam::{Grid, Ladder, Point, Steps};
+use ht_rate::Modulation;
 use std::marker::Brand;
 use std::process::Abort;
 use std::sync::ledger::{Blank, Ledger};
@@ -140,4 +141,64 @@ fn hostile_jobs_of_two_streams(rt: HostRuntime) {
         pair(clean, clean, small, grid),
     ];
     expect(&rt, &jobs);
+}
+
+// Eight times the same job of one stream is labelled so, without noise and in each lane.
+fn expect_label(
+    rt: &impl Abort,
+    modulation: Modulation,
+    row: (u16, i32, i32),
+    grid: Grid,
+    label: u32,
+)
+    requires { length grid ≡ 1 }
+{
+    let jobs = [
+        single(row, grid),
+        single(row, grid),
+        single(row, grid),
+        single(row, grid),
+        single(row, grid),
+        single(row, grid),
+        single(row, grid),
+        single(row, grid),
+    ];
+    let lanes = label_eight(modulation, &jobs);
+    for k in 0..8 {
+        let is_sure = lanes.sure[k] > 0;
+        assert_eq!(rt;
+            (is_sure, lanes.first[k] % 256, lanes.distance[k]),
+            (true, label, 0)
+        );
+    }
+}
+
+// Labels of IEEE Std 802.11-2012, tables 18-8 to 18-11.
+#[test]
+fn clean_jobs_are_labelled(rt: HostRuntime) {
+    let [one, two, four, eight] = [
+        Ladder::of(1, 1),
+        Ladder::of(2, 3),
+        Ladder::of(4, 15),
+        Ladder::of(8, 255),
+    ];
+    let (bpsk, qpsk) = (Grid::one(two, one), Grid::one(two, two));
+    let (qam16, qam64) = (Grid::one(four, four), Grid::one(eight, eight));
+    expect_label(&rt, Modulation::Bpsk, (100, 100, 0), bpsk, 0b1);
+    expect_label(&rt, Modulation::Qpsk, (100, -100, 100), qpsk, 0b01);
+    expect_label(&rt, Modulation::Qam16, (100, -100, 100), qam16, 0b0111);
+    expect_label(&rt, Modulation::Qam64, (100, 700, -700), qam64, 0b10_0000);
+}
+
+// A pilot's vector is told with its distance, 215^2 + 20^2, and a job that has others isn't answered.
+#[test]
+fn pilots_have_their_distance(rt: HostRuntime) {
+    let (zero, one, both) = (Ladder::of(1, 1), Ladder::of(2, 0b10), Ladder::of(2, 0b11));
+    let pilot = find_only(&single((100, 315, -20), Grid::one(one, zero)));
+    let mut vector = Vector::new();
+    vector.push(Point { i: 1, q: 0 });
+    let distance = 46625;
+    assert_eq!(rt; pilot, Some(Found { vector, distance }));
+    let other = find_only(&single((100, 315, -20), Grid::one(both, zero)));
+    assert_eq!(rt; other, None);
 }

@@ -2,8 +2,8 @@ use Rattle.std.proofs.Common.{sym}
 use Rattle.ht_rx.proofs.Eights.{first_more}
 use Rattle.ht_rx.proofs.in_lanes.add_alone.Goals as goal
 
-pub returns-in_ok-add_found : goal.returns-in_ok-add_found
-returns-in_ok-add_found g c =
+pub returns : goal.returns
+returns g c =
     let t = c.args.tally.now in
     let new = c.add_found.new.tally in
     let e = c.in_ok-add_found.ensures in
