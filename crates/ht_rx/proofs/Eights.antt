@@ -1,35 +1,6 @@
 -- Eight jobs of a block that are found together.
-use Rattle.std.proofs.Common.{
-  ◌≡◌,
-  ℕ,
-  zero,
-  suc,
-  ◌+◌,
-  ◌%◌,
-  ◌<◌,
-  ◌≤◌,
-  List,
-  [],
-  ◌∷◌,
-  ◌++◌,
-  Option,
-  Some,
-  IfSome,
-  length,
-  length-append,
-  take,
-  map,
-  get_or,
-  slice_get,
-  slice_index,
-  slice_index_or,
-  arith,
-  ap,
-  refl,
-  subst,
-  sym,
-  ◌∙◌,
-}
+use Rattle.std.proofs.Common.{◌≡◌, ℕ, zero, suc, ◌+◌, ◌%◌, ◌<◌, ◌≤◌, List, [], ◌∷◌, ◌++◌, Option, Some, IfSome, length, length-append, take, map, get_or}
+use Rattle.std.proofs.Common.{slice_get, slice_index, slice_index_or, arith, ap, refl, subst, sym, ◌∙◌}
 use Rattle.std.specs.List.{range_with_len}
 use Rattle.std.proofs.lemmas.List.{length-map}
 use Rattle.std.proofs.lemmas.List.FromFn.{length-range_with_len}
@@ -63,10 +34,14 @@ module _ (label : Point → ℕ) (lanes : Labelled) where
   eight_labelled jobs at a b c d e f g h pa pb pc pd pe pf pg ph says (suc zero) lt = one_labelled jobs at 1 (at + 1) b (omega arith) pb (says 1 lt)
   eight_labelled jobs at a b c d e f g h pa pb pc pd pe pf pg ph says (suc (suc zero)) lt = one_labelled jobs at 2 (at + 2) c (omega arith) pc (says 2 lt)
   eight_labelled jobs at a b c d e f g h pa pb pc pd pe pf pg ph says (suc (suc (suc zero))) lt = one_labelled jobs at 3 (at + 3) d (omega arith) pd (says 3 lt)
-  eight_labelled jobs at a b c d e f g h pa pb pc pd pe pf pg ph says (suc (suc (suc (suc zero)))) lt = one_labelled jobs at 4 (at + 4) e (omega arith) pe (says 4 lt)
-  eight_labelled jobs at a b c d e f g h pa pb pc pd pe pf pg ph says (suc (suc (suc (suc (suc zero))))) lt = one_labelled jobs at 5 (at + 5) f (omega arith) pf (says 5 lt)
-  eight_labelled jobs at a b c d e f g h pa pb pc pd pe pf pg ph says (suc (suc (suc (suc (suc (suc zero)))))) lt = one_labelled jobs at 6 (at + 6) g (omega arith) pg (says 6 lt)
-  eight_labelled jobs at a b c d e f g h pa pb pc pd pe pf pg ph says (suc (suc (suc (suc (suc (suc (suc zero))))))) lt = one_labelled jobs at 7 (at + 7) h (omega arith) ph (says 7 lt)
+  eight_labelled jobs at a b c d e f g h pa pb pc pd pe pf pg ph says (suc (suc (suc (suc zero)))) lt = one_labelled jobs at 4 (at + 4) e (omega arith) pe
+      (says 4 lt)
+  eight_labelled jobs at a b c d e f g h pa pb pc pd pe pf pg ph says (suc (suc (suc (suc (suc zero))))) lt = one_labelled jobs at 5 (at + 5) f
+      (omega arith) pf (says 5 lt)
+  eight_labelled jobs at a b c d e f g h pa pb pc pd pe pf pg ph says (suc (suc (suc (suc (suc (suc zero)))))) lt = one_labelled jobs at 6 (at + 6) g
+      (omega arith) pg (says 6 lt)
+  eight_labelled jobs at a b c d e f g h pa pb pc pd pe pf pg ph says (suc (suc (suc (suc (suc (suc (suc zero))))))) lt = one_labelled jobs at 7 (at + 7) h
+      (omega arith) ph (says 7 lt)
   eight_labelled jobs at a b c d e f g h pa pb pc pd pe pf pg ph says (suc (suc (suc (suc (suc (suc (suc (suc k)))))))) lt = absurd (omega (arith, lt))
 
 -- one more job of a block
@@ -110,7 +85,8 @@ labelled_more jobs n k place label lanes head own own' c d p c' d' p' ps ls ps' 
 -- a lane has a label of each stream
 pub as_many : (lanes : Labelled) (k n : ℕ) → n ≡ lanes.streams → n ≤ 4 → length (labels_in lanes k) ≡ n
 as_many lanes k n e few =
-    let all : List ℕ = slice_index lanes.first k % 256 ∷ slice_index lanes.second k % 256 ∷ slice_index lanes.third k % 256 ∷ slice_index lanes.fourth k % 256 ∷ [] in
+    let all : List ℕ = slice_index lanes.first k % 256 ∷ slice_index lanes.second k % 256 ∷ slice_index lanes.third k % 256 ∷ slice_index lanes.fourth k %
+    256 ∷ [] in
     ap (λ (m : ℕ). length (take m all)) (sym e) ∙ of_four n _ _ _ _ few
   where
     of_four : (n a b c d : ℕ) → n ≤ 4 → length (take n (a ∷ b ∷ c ∷ d ∷ [])) ≡ n

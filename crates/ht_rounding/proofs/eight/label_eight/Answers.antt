@@ -10,4 +10,5 @@ returns-clause-labels c k lt some =
     let eight = c.gathered_by-eight.result in
     c.label_lanes.ensures.labels k job lt some
     (subst (λ (q : Levels). HasJob (i_levels c.args.modulation) q eight c.streams-streams.result k job) c.levels_by-i.ensures.q
-    (subst (λ (i : Levels). HasJob i c.levels_by-i.result.1 eight c.streams-streams.result k job) c.levels_by-i.ensures.i (c.gathered_by-eight.ensures.jobs k lt)))
+    (subst (λ (i : Levels). HasJob i c.levels_by-i.result.1 eight c.streams-streams.result k job) c.levels_by-i.ensures.i
+    (c.gathered_by-eight.ensures.jobs k lt)))

@@ -6,7 +6,10 @@ use Rattle.ht_rounding.proofs.eight.label_three.Goals as goal
 
 pub returns-clause-labels : goal.returns-clause-labels
 returns-clause-labels c k job lt some has =
-    let ps : List Point = point_at c.detect_three-found.result.first k ∷ point_at c.detect_three-found.result.second k ∷ point_at c.detect_three-found.result.third k ∷ [] in
-    lane_labelled c.args.i c.args.q c.args.eight.now _ k 3 (slice_index c.detect_three-found.result.first.spare k) _ job ps (slice_index c.detect_three-found.result.first.rho k) (c.lesser.ensures.lane k lt) some has
+    let ps : List Point = point_at c.detect_three-found.result.first k ∷ point_at c.detect_three-found.result.second k ∷ point_at
+    c.detect_three-found.result.third k ∷ [] in
+    lane_labelled c.args.i c.args.q c.args.eight.now _ k 3 (slice_index c.detect_three-found.result.first.spare k) _ job ps
+    (slice_index c.detect_three-found.result.first.rho k) (c.lesser.ensures.lane k lt) some has
     (λ left here. c.detect_three-found.ensures k job lt left here) refl
-    (of_three c.args.i c.args.q (point_at c.detect_three-found.result.first k) (point_at c.detect_three-found.result.second k) (point_at c.detect_three-found.result.third k) _ _ _ (c.labels-first.ensures k lt) (c.labels.ensures k lt) (c.labels-2.ensures k lt))
+    (of_three c.args.i c.args.q (point_at c.detect_three-found.result.first k) (point_at c.detect_three-found.result.second k)
+    (point_at c.detect_three-found.result.third k) _ _ _ (c.labels-first.ensures k lt) (c.labels.ensures k lt) (c.labels-2.ensures k lt))
