@@ -137,6 +137,7 @@ complete -c mizgaure -n '__fish_seen_subcommand_from report' -l theirs -r -d 'an
 complete -c mizgaure -n '__fish_seen_subcommand_from report' -l sweep -r -d 'what mizgaure sweep kept; may come again'
 complete -c mizgaure -n '__fish_seen_subcommand_from report' -l frequency -x -d 'of the middle of the recorded band'
 complete -c mizgaure -n '__fish_seen_subcommand_from report' -l reference-ppm -x -d 'by how much the recorder\'s own clock may be wrong'
+complete -c mizgaure -n '__fish_seen_subcommand_from report' -l shift -x -d 'where the packets\' middle is, from the recordings\' middle'
 complete -c mizgaure -n '__fish_seen_subcommand_from report' -l pictures -x -d 'draw the first N frames of each capture'
 complete -c mizgaure -n '__fish_seen_subcommand_from report' -l title -x -d 'the page\'s title'
 complete -c mizgaure -n '__fish_seen_subcommand_from waveform' -l force -d 'overwrite a file that is there already'

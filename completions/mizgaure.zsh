@@ -208,6 +208,7 @@ case $command in
       '--sweep[what mizgaure sweep kept; may come again]:file:_files' \
       '--frequency[of the middle of the recorded band]:hz:' \
       '--reference-ppm[by how much the recorder'\''s own clock may be wrong]:ppm:' \
+      '--shift[where the packets'\'' middle is, from the recordings'\'' middle]:hz:' \
       '--pictures[draw the first N frames of each capture]:n:' \
       '--title[the page'\''s title]:text:' \
       '--help[say more]' \
