@@ -80,7 +80,8 @@ def test_a_recording_without_a_level_keeps_its_samples():
 
 def overlapping(above, middle=0, over=1, seed=0, late=None):
     """The packets found where another one, so many dB above a first one, begins in the middle of that or so much later, and where it begins."""
-    (_, first), (_, second) = (packet(frame, Clock(over, middle=place), 0.3) for frame, place in zip(symbols_of((0,), 400, 2, seed), (-32 if over == 2 else 0, middle)))
+    places = (-32 if over == 2 else 0, middle)
+    (_, first), (_, second) = (packet(frame, Clock(over, middle=place), 0.3) for frame, place in zip(symbols_of((0,), 400, 2, seed), places))
     at, front = first.shape[1] // 2 if late is None else late, 400 * over
     whole = np.zeros((1, front + at + second.shape[1] + front), complex)
     whole[:, front : front + first.shape[1]] = first
@@ -96,7 +97,8 @@ def test_a_packet_that_begins_while_another_one_lasts(above, middle, over):
     for seed in range(3):
         found, at = overlapping(above, middle, over, seed)
         assert [one.left_out == COLLISION for one in found] == [False, True] and abs(found[1].sample - at) <= 4 * over
-        assert found[0].signal.length == 400 and found[1].frame is None and "no header" in str(line_of(found[1], 1, air.heard([np.zeros((1, 1))]), None, COLLISION))
+        assert found[0].signal.length == 400 and found[1].frame is None
+        assert "no header" in str(line_of(found[1], 1, air.heard([np.zeros((1, 1))]), None, COLLISION))
 
 
 @pytest.mark.parametrize("microseconds", [12, 16, 20, 26, 30, 36, 44, 52, 60])

@@ -19,8 +19,8 @@ import numpy as np
 
 from .recording import ENDLESS, Recording
 
-# Samples at 20 MHz: from one piece to the next where there are up to four antennas; behind a piece's end; in front of its beginning.
-STEP, BEHIND, FRONT = 1 << 19, 1 << 17, 1 << 10
+# Samples at 20 MHz: from one piece to the next where there are up to two antennas; behind a piece's end; in front of its beginning.
+STEP, BEHIND, FRONT = 1 << 20, 1 << 17, 1 << 10
 LEAST_STEP = 1 << 16
 READ = 1 << 16  # samples that are read at once
 BLOCK, BLOCKS = 64, 32  # samples of a block of the level's mean, and blocks of a window
@@ -80,7 +80,7 @@ class Piece:
 
 def step_of(antennas: int, over: int) -> int:
     """Instants from the beginning of one piece to that of the next: the fewer, the more antennas there are."""
-    return over * max(LEAST_STEP, STEP * 4 // max(4, antennas * over))
+    return over * max(LEAST_STEP, STEP * 2 // max(2, antennas * over))
 
 
 def piece_of(recording: Recording, over: int, number: int) -> Piece:

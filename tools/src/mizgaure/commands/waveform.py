@@ -6,7 +6,7 @@ import argparse
 import sys
 from typing import Optional, Tuple
 
-from ..air.recording import WRITTEN, Layout, write_recording
+from ..air.recording import WRITTEN, Layout, Writer, write_recording
 from ..air.simulate import Scene, record_packets
 from ..errors import InputError
 from ..files import naming
@@ -105,9 +105,13 @@ def run(given: argparse.Namespace) -> None:
         scene.check_band(rate.bandwidth, oversampling)
     antennas = scene.antennas or max(rate.streams for rate in rates) + scene.stbc
     layout = Layout(given.datatype, 20e6 * oversampling, antennas)
-    writer = write_recording(given.output, layout, lambda writer: record_packets(counted(read_htsy(source), len(rates), "waveform"), scene, antennas, oversampling, writer),
-                             raw=given.raw, frequency=scene.frequency, description=f"Packets of IEEE 802.11n in HT-{'greenfield' if scene.greenfield else 'mixed'} format",
-                             force=given.force, bits=given.bits)
+
+    def fill(writer: Writer) -> None:
+        record_packets(counted(read_htsy(source), len(rates), "waveform"), scene, antennas, oversampling, writer)
+
+    description = f"Packets of IEEE 802.11n in HT-{'greenfield' if scene.greenfield else 'mixed'} format"
+    writer = write_recording(given.output, layout, fill, raw=given.raw, frequency=scene.frequency, description=description, force=given.force,
+                             bits=given.bits)
     bits = "" if given.bits is None else f" of {given.bits} bits"
     clipped = f", {writer.clipped} parts clipped" if writer.clipped else ""
     packets = "1 packet" if len(rates) == 1 else f"{len(rates)} packets"
