@@ -301,6 +301,7 @@ def test_intervals_and_outcomes():
     assert interval_of([1.0, 3.0]) == pytest.approx((2 - 12.706, 2 + 12.706), abs=1e-3) and interval_of([5.0], 0.5) is None
     made = Finding(limits.CLOCK, "20 MHz", (-20.0, 20.0), "ppm", 20.1, (19.9, 20.3), 4)
     assert made.outcome == "no verdict: the interval has the limit in it" and replace(made, interval=(20.01, 20.3)).verdict == "fail"
+    assert replace(made, interval=(-np.inf, 3.0)).record()["low"] is None and "(95 %: -inf to 3.00)" in str(replace(made, interval=(-np.inf, 3.0)))
     assert replace(made, interval=(-20, 20)).verdict == "pass" and replace(made, frames=1).outcome == "no verdict: 1 of 2 frames"
     assert replace(made, interval=(-30, -20.1)).verdict == "fail" and replace(made, interval=(0, 1), unsure="why").outcome == "no verdict: why"
 

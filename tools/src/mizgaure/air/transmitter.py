@@ -332,7 +332,7 @@ class Finding:
     def record(self) -> Dict[str, Any]:
         """The same as a record."""
         low, high = (None, None) if self.allowed is None else (None if np.isinf(end) else end for end in self.allowed)
-        ends = self.interval or (None, None)
+        ends = [None if end is None or np.isinf(end) else end for end in self.interval or (None, None)]
         return {"test": self.limit.test, "clause": self.limit.clause, "edition": limits.EDITION, "subject": self.subject, "limit_low": low, "limit_high": high,
                 "unit": self.unit, "value": self.value, "low": ends[0], "high": ends[1], "where": self.where, "frames": self.frames,
                 "frames_asked": self.limit.frames, "frames_named": self.limit.named, "verdict": self.verdict, "outcome": self.outcome}
@@ -547,7 +547,7 @@ def _constellation(packets: Sequence[Measured], rate: Rate) -> List[Finding]:
     for which in ("all", "data", "pilot"):
         values = [packet.error(which) for packet in long or packets]
         ends = interval_of(values)
-        interval = None if ends is None else (float(decibels(max(ends[0], 1e-12))), float(decibels(ends[1])))
+        interval = None if ends is None else (float(decibels(ends[0])) if ends[0] > 0 else -np.inf, float(decibels(ends[1])))
         value = float(decibels(float(np.mean(values))))
         finding = Finding(limits.CONSTELLATION, f"{rate}, {which} subcarriers", (-np.inf, float(rate.error_limit)), "dB", value, interval, len(long),
                           lacking="" if len(long) >= limits.CONSTELLATION.frames else lacking)
