@@ -263,7 +263,8 @@ def test_short_frames_are_named():
 
 def test_clocks_of_waveform():
     """The symbol clock is off by itself, and the carrier by itself."""
-    for clock, offset, outcome in ((20.3, 0.0, ("pass", "fail")), (-19.7, 20.3, ("fail", "pass")), (None, 19.7, ("pass", "pass")), (0.0, -20.3, ("fail", "pass"))):
+    for clock, offset, outcome in ((20.3, 0.0, ("pass", "fail")), (-19.7, 20.3, ("fail", "pass")), (None, 19.7, ("pass", "pass")),
+                                   (0.0, -20.3, ("fail", "pass"))):
         recording = of_scene(Scene(clock=clock, offset=offset))
         carrier, symbols = (found(recording, test) for test in ("centre frequency", "symbol clock"))
         assert (carrier.value, symbols.value) == pytest.approx((offset, offset if clock is None else clock), abs=0.1)
@@ -396,7 +397,8 @@ def test_packets_of_two_channels_are_two_transmitters():
     packets = list(measured(recording_of(octets_in(whole), Layout("cf32_le", 40e6, 1), CARRIER), shown=False))
     found = [each for each in findings(packets, CARRIER, 0.1, 40e6) if each.limit.test != "constellation error"]
     half = " in one half of 40 MHz"
-    assert [each.subject for each in found] == [f"20 MHz at {middle} MHz{more}" for middle in ("-10", "+10") for more in (", distance below it", "", "", "", "", half)]
+    assert [each.subject for each in found] == [f"20 MHz at {middle} MHz{more}"
+                                                for middle in ("-10", "+10") for more in (", distance below it", "", "", "", "", half)]
     assert len(packets) == 8 and [each.limit.test for each in found if each.verdict == "fail"] == ["spectral mask"] * 2
     assert all(abs(float(each.where.split()[0])) > 29 and each.value > -14 for each in found if each.limit.test == "spectral mask")
 

@@ -18,7 +18,8 @@ EDITION = "IEEE Std 802.11-2012"
 HIGH_BAND = 4.9e9  # Hz, from which on a carrier is in the 5 GHz band
 SEVERAL = 2  # frames from which on there is an interval, where a clause names no number
 NOT_CHECKED = "nothing"
-REMARK = "The limits and the numbers of clauses are from memory of the standard, and weren't compared with its text: compare them with your copy before you sign."
+REMARK = ("The limits and the numbers of clauses are from memory of the standard, and weren't compared with its text: "
+          "compare them with your copy before you sign.")
 
 
 @dataclass(frozen=True)
