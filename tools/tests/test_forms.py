@@ -297,5 +297,7 @@ def test_from_symbols_to_packets(here, sent, tmp_path):  # noqa: F811
     assert here("waveform", "sent.htsy", "-o", "air", "--stbc", 2, "--force").stderr.decode() == \
         "mizgaure: STBC sends 20 MHz, MCS 2 (QPSK 3/4, 1 stream) on no 3 space-time streams\n"
     assert here("picture", "tracking", "air", "it.png", "--frame", 1).stderr.decode() == \
-        "mizgaure: packet 1 of air.sigmf-data is in greenfield format or has STBC, and isn't drawn\n"
-    assert here("verdict", "air").returncode == 2
+        "mizgaure: packet 1 of air.sigmf-data has STBC, and isn't drawn\n"
+    refused = here("verdict", "air")
+    assert refused.returncode == 2 and refused.stderr.decode() == \
+        "mizgaure: air.sigmf-data: 3 packets aren't measured: 3 with STBC, whose points are known over two chains together alone\n"

@@ -164,6 +164,16 @@ def test_progress(here, everything, monkeypatch, name):
     assert done.returncode in (0, 1) and re.search(rb"\r[a-z -]+: 100 %", done.stderr), done.stderr
 
 
+def test_progress_of_a_challenge(here, tmp_path, monkeypatch):
+    """Each packet that was written counts, over all recordings; their lines stand alone."""
+    monkeypatch.setitem(sys.modules, "tqdm", None)
+    monkeypatch.setattr("mizgaure.program.sys", _Instead(sys, stderr=_Instead(sys.stderr, isatty=lambda: True)))
+    done = here("challenge", "sensitivity", "lab", "--mcs", "0,7", "--packets", 5, "--length", 30)
+    assert done.returncode == 0 and re.findall(r"\rchallenge: (\d+) %", done.stderr.decode()) == [str(percent) for percent in range(10, 101, 10)]
+    assert [line.partition(":")[0] for line in done.stdout.decode().splitlines()] == ["lab/sensitivity-20-mcs00", "lab/sensitivity-20-mcs07"]
+    assert done.stderr.endswith(b" \r")
+
+
 class _Instead:
     """Something with other attributes."""
 

@@ -268,5 +268,21 @@ def test_wireshark_has_nothing_to_note(here, tshark, tmp_path, radio):
         for packet in told:
             assert packet["_ws.expert"] == packet["_ws.malformed"] == "" and packet["wlan.fcs.status"] == "1" and int(packet["wlan_radio.duration"]) > 40
             assert (packet["radiotap.dbm_antsignal"], packet["radiotap.db_antsignal"]) == (signal, level)
+            assert packet["radiotap.dbm_antnoise"] in (("-75", "-76") if signal else ("",))  # 35 dB and what is in 8 of 64 subcarriers below the signal
             assert packet["frame.time_epoch"].startswith("1772366400.2500") and packet["radiotap.mactime"].startswith("17723664002500")
     assert here("receive", "air", "--full-scale", "-20").stderr == b"mizgaure: --full-scale is said of the levels in --output\n"
+
+
+def test_levels_of_signal_and_noise(here, tmp_path, radio):
+    """Of a packet 20 dB below full scale: in dBm where full scale is said, and else in dB; noise is that of a subcarrier beside the signal's."""
+    (tmp_path / "mpdus").write_text("".join(data_frame(number=n)[:-4].hex() + "\n" for n in range(2)))
+    assert here("frames", "mpdus", "--mcs", 9, "-o", "sent.httx").returncode == 0
+    (tmp_path / "sent.htsy").write_bytes(radio.tx((tmp_path / "sent.httx").read_bytes()))
+    for snr, full_scale in ((20, -20), (30, -20), (30, -7.5)):
+        assert here("waveform", "sent.htsy", "-o", "air", "--snr", snr, "--force").returncode == 0
+        assert here("receive", "air", "-o", "air.pcap", "--full-scale", full_scale, "--force").returncode == 0
+        signal, noise = np.array([(each.radiotap.signal, each.radiotap.noise) for each in read_pcap(tmp_path / "air.pcap")]).T
+        assert signal == pytest.approx(full_scale - 20, abs=1) and noise == pytest.approx(full_scale - 20 - snr - 10 * np.log10(64 / 56), abs=1.2)
+        assert here("receive", "air", "-o", "air.pcap", "--force").returncode == 0
+        levels = [(each.radiotap.signal_level, each.radiotap.noise_level) for each in read_pcap(tmp_path / "air.pcap")]
+        assert np.array(levels) == pytest.approx(np.array([[108, 107.4 - snr]] * 2), abs=1.2)

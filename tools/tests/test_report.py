@@ -5,11 +5,12 @@ import html.parser
 import json
 import re
 
+import numpy as np
 import pytest
 from conftest import TOP, VECTORS
 
 import mizgaure
-from mizgaure import read_htsy, read_httx
+from mizgaure import Rate, SymbolsFrame, read_htsy, read_httx, write_htsy
 from mizgaure.packets import aggregate, take_apart, with_fcs
 from mizgaure.tracing import program_facts, recorded
 
@@ -208,7 +209,7 @@ def test_a_report_that_can_be_traced(here, tmp_path, radio):
     page = Page()
     page.feed((tmp_path / "it.html").read_text())
     page.close()
-    assert page.open == [] and page.images == 7 + 1
+    assert page.open == [] and page.images == 8 + 1
     assert re.search(r"made\s*20\d\d-\d\d-\d\d \d\d:\d\d:\d\d UTC", page.text)
     assert f"mizgaure tools {mizgaure.__version__}" in page.text and f"mizgaure {' '.join(map(str, words))}" in page.text
     for path in ("air.sigmf-meta", "air.sigmf-data", "sweep.json", VECTORS / "jobs" / "small-mcs09.htcp", radio.path):
@@ -217,11 +218,55 @@ def test_a_report_that_can_be_traced(here, tmp_path, radio):
         assert test in page.text
     assert "no verdict: 1 of 20 frames" in page.text and "signature" in page.text and "noise of a subcarrier" in page.text
     assert "0 of 6 pass; 6 without a verdict (spectral mask, spectral flatness, " in page.text
-    assert "wrong by at most 1 ppm" in page.text and "Figure 8: error rates" in page.text and "from memory of the standard" in page.text
+    assert "wrong by at most 1 ppm" in page.text and "Figure 9: error rates" in page.text and "from memory of the standard" in page.text
     assert "device under test" in page.text and page.text.index("spectral mask") < page.text.index("Frames")  # what is signed comes first
     assert '<span class="open">' in (tmp_path / "it.html").read_text()
     assert here("report", TOP / "examples" / "z.htcp", "-o", "other.html", "--reference-ppm", 1).stderr == (
-        b"mizgaure: --frequency and --reference-ppm are said of recordings, and there is none\n")
+        b"mizgaure: --reference-ppm does nothing here: it is said of recordings, and there is none\n")
+
+
+def test_a_report_of_recordings_alone(here, tmp_path, radio):
+    """The program has no part in it: none is named, and none is asked for; what isn't measured is counted, and the constellation has its error."""
+    pytest.importorskip("matplotlib")
+    frames = [SymbolsFrame(Rate(20, 9), 300, random_points(Rate(20, 9), 300, seed)) for seed in range(3)]
+    write_htsy("sent.htsy", frames)
+    octets = b""
+    for words in (["--stbc", 1], ["--error", "-20", "--offset", 3]):
+        assert here("waveform", "sent.htsy", "-o", "part", "--raw", "--force", "--antennas", 3, *words).returncode == 0
+        octets += (tmp_path / "part").read_bytes()
+    assert here("waveform", "sent.htsy", "-o", "air", "--antennas", 3).returncode == 0
+    (tmp_path / "air.sigmf-data").write_bytes(octets + b"abc")
+    done = here("report", "air", "-o", "it.html", "--reference-ppm", 0.5)
+    assert done.returncode == 0 and done.stdout == done.stderr == b""
+    page = Page()
+    page.feed((tmp_path / "it.html").read_text())
+    page.close()
+    assert "Recordings, measured" in page.text and "the program takes no part in it" in page.text and "tested and not proved" in page.text
+    assert "radio found" not in page.text and "SHA-256 of the program" not in page.text and radio.path not in page.text
+    assert "3 measured; 3 packets aren't measured: 3 with STBC" in page.text and "3 octets at its end are no whole sample" in page.text
+    pictures = re.findall(r"Figure \d+: ([^,]+)", page.text)
+    assert pictures == ["the spectrum and the mask", "spectral flatness", "errors over subcarriers", "errors over symbols", "the channel over subcarriers",
+                        "the channel over delays", "the phase of symbols", "the constellation of MCS 9", "the constellation of MCS 9"] and page.images == 9
+    for words, said in ((["--radio", radio.path], "--radio does nothing here: recordings and sweeps are looked at without it"),
+                        (["--pictures", 1], "--pictures does nothing here: the frames of captures are drawn, and there is none"),
+                        (["--theirs", "x"], "--theirs comes once for each capture: captures 0, --theirs 1"),
+                        (["--shift", "8e6"], "air.sigmf-data: a shift of 8 MHz leaves the 20 MHz that were recorded")):
+        refused = here("report", "air", "-o", "other.html", *words)
+        assert (refused.returncode, refused.stderr.decode()) == (2, f"mizgaure: {said}\n")
+    for name in ("--frequency", "--shift", "--reference-ppm"):
+        refused = here("report", TOP / "examples" / "z.htcp", "-o", "other.html", name, 1)
+        assert refused.stderr.decode() == f"mizgaure: {name} does nothing here: it is said of recordings, and there is none\n"
+    assert here("report", "air", TOP / "examples" / "z.htcp", "-o", "both.html", "--pictures", 0).returncode == 0
+    both = (tmp_path / "both.html").read_text()
+    assert "Captures and recordings, measured" in both and "radio found" in both and "takes no part in it" in both and radio.path in both
+
+
+def random_points(rate, length, seed):
+    """The points of a frame of random bits."""
+    random = np.random.default_rng(seed)
+    points = rate.points[random.integers(0, rate.points.size, (rate.symbols(length), rate.subcarriers, rate.streams))]
+    points[:, rate.is_pilot] = rate.pilot_signs(len(points))
+    return points
 
 
 def test_what_the_program_says_of_itself(tmp_path):

@@ -17,7 +17,7 @@ from mizgaure.air import limits
 from mizgaure.air.recording import Layout
 from mizgaure.air.resampled import Resampled, fitted
 from mizgaure.air.simulate import LEVEL, Scene
-from mizgaure.air.transmitter import Finding, Measured, findings, interval_of, mask_curve, spectrum_of
+from mizgaure.air.transmitter import Finding, Measured, Spectrum, findings, interval_of, mask_curve, spectrum_of, summed
 from mizgaure.air.waveform import Clock, joined, pieces_of
 from mizgaure.commands.verdict import measured
 
@@ -136,27 +136,43 @@ def shaped(offsets_to_db, rate, seed=1, count=1 << 20):
     return np.fft.ifft(levels * np.exp(2j * np.pi * random.random(count)))[None]
 
 
-def masked(samples, rate, bandwidth, silence=None):
+def masked(samples, rate, bandwidth, silence=None, frequency=CARRIER):
     """The outcome of the mask alone, for a signal in the middle of its band."""
-    rates = Rate(bandwidth, 0)
-    nothing = np.zeros((1, rates.subcarriers))
-    packet = Measured(rates, 16, 0.0, 0.0, 0.0, np.zeros(1), nothing + 1, np.zeros((16, rates.subcarriers, 1)), spectrum_of(samples, rate),
-                      spectrum_of(np.zeros((1, 0)) if silence is None else silence, rate))
-    return next(each for each in findings([packet] * 2, CARRIER, 0.1, rate) if each.limit.test == "spectral mask")
+    packet = replace(blank(Rate(bandwidth, 0), len(samples)), spectrum=spectrum_of(samples, rate),
+                     silence=spectrum_of(np.zeros((len(samples), 0)) if silence is None else silence, rate))
+    return next(each for each in findings([packet] * 2, frequency, 0.1, rate) if each.limit.test == "spectral mask")
+
+
+def blank(rate, antennas=1):
+    """A packet without any fault or spectrum."""
+    nothing = spectrum_of(np.zeros((antennas, 0)), 20e6)
+    return Measured(rate, 16, 0.0, 0.0, 0.0, np.zeros(antennas), np.ones((antennas, rate.subcarriers)), np.zeros((16, rate.subcarriers, 1)), nothing, nothing)
 
 
 @pytest.mark.parametrize("bandwidth, rate", [(20, 61.44e6), (40, 122.88e6)])
-def test_the_mask(bandwidth, rate):
-    """A hump beyond the mask by 1 dB fails wherever it is, and one 1 dB below it passes."""
+@pytest.mark.parametrize("frequency", [CARRIER, 2.412e9])
+def test_the_mask(bandwidth, rate, frequency):
+    """A hump beyond the mask by 1 dB fails wherever it is, and one 1 dB below it passes; at its far end the mask is that of the band."""
     scale = 1 if bandwidth == 20 else 2
-    for place in (10.0, -15.0, 29.0) if bandwidth == 20 else (-20.0, 58.0):
+    for place in (10.0, -15.0, 29.9) if bandwidth == 20 else (-20.0, 59.8):
         for more, verdict in ((1.0, "fail"), (-1.0, "pass")):
             def level(offsets, place=place, more=more):
                 hump = np.abs(offsets - place * 1e6) < 3e5
-                mask = limits.mask_at(offsets, bandwidth, "5 GHz")
+                mask = limits.mask_at(offsets, bandwidth, limits.band_of(frequency))
                 return np.where(np.abs(offsets) < 8.9e6 * scale, 0, np.where(hump, mask + more, mask - 6))
-            outcome = masked(shaped(level, rate, count=1 << 19), rate, bandwidth)
+            outcome = masked(shaped(level, rate, count=1 << 19), rate, bandwidth, frequency=frequency)
             assert (outcome.verdict, abs(outcome.value + more) < 0.8) == (verdict, True), (place, outcome)
+
+
+@pytest.mark.parametrize("bandwidth, rate", [(20, 61.44e6), (40, 122.88e6)])
+def test_the_floor_of_the_mask_is_lower_at_2_4_ghz(bandwidth, rate):
+    """What is 42 dB down from the place on at which the mask is level passes in the 5 GHz band alone, where that is -40 and not -45 dBr."""
+    reach = 30e6 if bandwidth == 20 else 60e6
+    level = lambda offsets: np.where(np.abs(offsets) < reach * 0.29, 0.0, np.where(np.abs(offsets) > reach * 0.98, -42.0, -55.0))  # noqa: E731
+    samples = shaped(level, rate, count=1 << 19)
+    for frequency, margin, verdict in ((CARRIER, 2, "pass"), (2.412e9, -3, "fail"), (2.484e9, -3, "fail"), (5.825e9, 2, "pass"), (None, -3, "fail")):
+        outcome = masked(samples, rate, bandwidth, frequency=frequency)
+        assert outcome.verdict == verdict and outcome.value == pytest.approx(margin, abs=0.8)
 
 
 def of_scene(scene, rate=Rate(20, 7), over=1, count=6, length=500):
@@ -202,6 +218,48 @@ def test_leakage_of_waveform(rate, over, subject, limit):
         assert len(outcomes) == 1 if subject != "20 MHz in one half of 40 MHz" else outcomes[0].value < -40 and outcomes[0].verdict == "pass"
 
 
+@pytest.mark.parametrize("rate", [Rate(20, 1), Rate(20, 9), Rate(40, 9)])
+def test_packets_in_greenfield_format(rate):
+    """They are measured as those in mixed format are: offset, clock, leakage, flatness and error are those that were put in."""
+    edge = 28 if rate.bandwidth == 20 else 58
+    leakage = -20 if rate.bandwidth == 20 else -25  # less than is taken for a level of the recorder
+    scene = Scene(greenfield=True, offset=9.0, clock=-7.0, leakage=leakage, gains=((-edge, -2.0), (edge, 2.0)), error=-24.0)
+    outcomes = {}
+    for each in findings(list(measured(of_scene(scene, rate, rate.bandwidth // 20, 5), shown=False)), CARRIER, 0.1, rate.bandwidth * 1e6):
+        outcomes.setdefault(each.limit.test, each)
+    assert {each.frames for each in outcomes.values()} == {5}
+    said = [outcomes[test].value for test in ("centre frequency", "symbol clock", "centre frequency leakage", "constellation error")]
+    assert said == pytest.approx([9, -7, leakage, -24], abs=0.25)
+    assert outcomes["spectral flatness"].where.startswith(f"subcarrier {edge} of")
+
+
+def test_what_is_left_out_is_counted(here):
+    """By its reason, where it has STBC as where it isn't received; what is measured is judged all the same."""
+    write_htsy("sent.htsy", frames_of(Rate(20, 1), 3, 300))
+    parts = []
+    for words in (["--stbc", "1"], ["--greenfield", "--antennas", "2"], ["--antennas", "2"]):
+        assert here("waveform", "sent.htsy", "-o", "part", "--force", "--raw", *words).returncode == 0
+        parts.append(open("part", "rb").read())
+    whole = b"".join(parts)
+    open("all", "wb").write(whole[: len(whole) - 16 * 1000])  # the last packet is cut off
+    done = here("verdict", "all", "--datatype", "cf32_le", "--channels", 2, "--frequency", "5.18e9")
+    lines = done.stdout.decode().splitlines()
+    assert done.returncode == 0 and lines[0].endswith(": 5 packets at 5180 MHz, 20 million samples a second"), done
+    assert lines[1] == "4 packets aren't measured: 1 cut off, 3 with STBC, whose points are known over two chains together alone"
+
+
+def test_short_frames_are_named():
+    """Frames of fewer than 16 symbols don't count for the constellation error, though they have an interval; one frame has none."""
+    short = [found(of_scene(Scene(error=-20), Rate(20, 3), 1, count, 100), "constellation error") for count in (1, 2, 22)]
+    assert [each.outcome for each in short] == [f"no verdict: 0 of 20 frames; {count} more {verb} fewer than 16 symbols"
+                                                for count, verb in ((1, "has"), (2, "have"), (22, "have"))]
+    assert [each.interval is None for each in short] == [True, False, False] and "(one frame gives no interval)" in str(short[0])
+    assert "one frame" not in str(short[1]) + str(short[2]) and short[0].record()["low"] is None and short[1].record()["low"] is not None
+    both = [*measured(of_scene(Scene(error=-20), Rate(20, 3), 1, 20, 200), shown=False), *measured(of_scene(Scene(error=-5), Rate(20, 3), 1, 9, 100), shown=False)]
+    outcome = next(each for each in findings(both, CARRIER, 0.1, 20e6) if each.limit.test == "constellation error")
+    assert outcome.frames == 20 and outcome.verdict == "pass" and outcome.value == pytest.approx(-20, abs=0.3)  # the short ones with their errors aren't in it
+
+
 def test_clocks_of_waveform():
     """The symbol clock is off by itself, and the carrier by itself."""
     for clock, offset, outcome in ((20.3, 0.0, ("pass", "fail")), (-19.7, 20.3, ("fail", "pass")), (None, 19.7, ("pass", "pass")), (0.0, -20.3, ("fail", "pass"))):
@@ -222,9 +280,7 @@ def test_the_density_that_is_0_dbr():
     """In dB of full scale per Hz: noise of mean power -40 dB in 20 MHz, whose mean is as far below its largest density as below 0 dBr."""
     random = np.random.default_rng(1)
     samples = (random.standard_normal((1, 1 << 18)) + 1j * random.standard_normal((1, 1 << 18))) * 0.01 / np.sqrt(2)
-    nothing = np.zeros((1, 56))
-    packet = Measured(Rate(20, 0), 16, 0.0, 0.0, 0.0, np.zeros(1), nothing + 1, np.zeros((16, 56, 1)), spectrum_of(samples, 20e6), spectrum_of(np.zeros((1, 0)), 20e6))
-    curve = mask_curve([packet], CARRIER, 20e6)
+    curve = mask_curve([replace(blank(Rate(20, 0)), spectrum=spectrum_of(samples, 20e6))], CARRIER, 20e6)
     assert 10 * np.log10(np.mean(10 ** (curve.level / 10))) + curve.top == pytest.approx(-40 - 10 * np.log10(20e6), abs=0.1)
 
 
@@ -232,7 +288,7 @@ def test_the_mask_where_it_can_not_be_seen():
     """Half the rate ends it, and so does the recorder's own noise; what is seen beyond the mask fails all the same."""
     flat = lambda offsets: np.where(np.abs(offsets) < 8.9e6, 0.0, -50.0)  # noqa: E731
     seen = masked(shaped(flat, 40e6), 40e6, 20)
-    assert seen.outcome == "no verdict: the rate shows nothing beyond 19.6 MHz, and the mask goes on to 30 MHz"
+    assert seen.outcome == "no verdict: the rate shows nothing beyond 19.8 MHz, and the mask goes on to 30 MHz"
     high = lambda offsets: np.where(np.abs(offsets) < 8.9e6, 0.0, -15.0)  # noqa: E731
     assert masked(shaped(high, 40e6), 40e6, 20).verdict == "fail"
     noise = shaped(lambda offsets: np.full(offsets.shape, -38.0), 61.44e6, 2)
@@ -241,7 +297,7 @@ def test_the_mask_where_it_can_not_be_seen():
 
 
 def test_intervals_and_outcomes():
-    assert interval_of([1.0, 3.0]) == pytest.approx((2 - 12.706, 2 + 12.706), abs=1e-3) and interval_of([5.0], 0.5) == (4.5, 5.5)
+    assert interval_of([1.0, 3.0]) == pytest.approx((2 - 12.706, 2 + 12.706), abs=1e-3) and interval_of([5.0], 0.5) is None
     made = Finding(limits.CLOCK, "20 MHz", (-20.0, 20.0), "ppm", 20.1, (19.9, 20.3), 4)
     assert made.outcome == "no verdict: the interval has the limit in it" and replace(made, interval=(20.01, 20.3)).verdict == "fail"
     assert replace(made, interval=(-20, 20)).verdict == "pass" and replace(made, frames=1).outcome == "no verdict: 1 of 2 frames"
@@ -343,17 +399,111 @@ def test_packets_of_two_channels_are_two_transmitters():
     assert all(abs(float(each.where.split()[0])) > 29 and each.value > -14 for each in found if each.limit.test == "spectral mask")
 
 
-def test_a_recording_at_a_rate_that_shows_all_of_the_mask():
-    """At 61.44 million samples a second packets are received at 20, and the mask is held against what was recorded, also beside the middle."""
-    plain = faulty(count=3, clock=4, carrier=4)
+@pytest.fixture(scope="module")
+def fast():
+    """Four packets at 61.44 million samples a second, without an offset, and where they last."""
+    plain = faulty(Rate(20, 0), 4, length=100)
     samples = resample_poly(plain.read(0, plain.length).astype(complex), 384, 125, axis=1)
-    for shift in (0.0, 5e6):
-        moved = samples * np.exp(2j * np.pi * shift / 61.44e6 * np.arange(samples.shape[1]))
-        recording = Resampled(recording_of(octets_in(moved), Layout("cf32_le", 61.44e6, 1), CARRIER), shift)
+    powers = np.abs(samples[0]) ** 2
+    return samples, np.convolve(powers, np.ones(64) / 64, "same") > 0.05 * powers.mean()
+
+
+def moved(samples, shift):
+    return samples * np.exp(2j * np.pi * shift / 61.44e6 * np.arange(samples.shape[1]))
+
+
+@pytest.mark.parametrize("offset", [-40, -20, 20, 40])
+def test_all_of_the_mask_is_seen_wherever_the_carrier_may_be(fast, offset):
+    """At 61.44 million samples a second, with the carrier off by as much as the clause allows, and by twice that, as where the recorder's is off, too.
+
+    A hump 5 dB beyond the mask at its far end, 29.9 MHz beside the carrier, fails there.
+    """
+    samples, lasts = fast
+    carrier = 5.825e9  # the highest channel
+    density = np.mean(np.abs(samples[0, lasts]) ** 2) / (56 * 312.5e3)
+    hump = shaped(lambda offsets: np.where(np.abs(np.abs(offsets) - 29.9e6) < 1e5, 0.0, -300.0), 61.44e6, count=samples.shape[1])
+    hump *= np.sqrt(density * 4e5 / np.mean(np.abs(hump) ** 2) * 10 ** ((-40 + 5) / 10)) * lasts
+    for added, verdict in ((0.0, "pass"), (hump, "fail")):
+        recording = Resampled(recording_of(octets_in(moved(samples + added, offset * 1e-6 * carrier)), Layout("cf32_le", 61.44e6, 1), carrier))
         packets = list(measured(recording, shown=False))
-        assert len(packets) == 3 and packets[0].middle == shift and packets[0].spectrum.powers.shape[1] == 1232
+        outcomes = {each.limit.test: each for each in findings(packets, carrier, 0.1, 61.44e6)}
+        mask = outcomes["spectral mask"]
+        assert len(packets) == 4 and mask.verdict == verdict, mask
+        assert outcomes["centre frequency"].value == pytest.approx(offset, abs=0.1)
+        assert 29.7 < abs(float(mask.where.split()[0])) < 30.1 if verdict == "fail" else mask.value > 3
+
+
+def test_a_recording_at_another_rate(fast):
+    """Packets are received at 40 million samples a second, and the mask is held against what was recorded, also beside the middle."""
+    samples, _ = fast
+    for shift in (0.0, 5e6):
+        recording = Resampled(recording_of(octets_in(moved(samples, shift)), Layout("cf32_le", 61.44e6, 1), CARRIER), shift)
+        packets = list(measured(recording, shown=False))
+        assert len(packets) == 4 and packets[0].middle == shift and packets[0].spectrum.powers.shape[-1] == 1232
         outcomes = {each.limit.test: each for each in findings(packets, CARRIER, 0.1, 61.44e6)}
         mask = outcomes["spectral mask"]
-        assert mask.verdict == "pass" if shift == 0 else mask.outcome == "no verdict: the rate shows nothing beyond 25.1 MHz, and the mask goes on to 30 MHz"
-        assert outcomes["symbol clock"].value == pytest.approx(4, abs=0.5) and outcomes["centre frequency"].value == pytest.approx(4, abs=0.1)
+        assert mask.verdict == "pass" if shift == 0 else mask.outcome == "no verdict: the rate shows nothing beyond 25.5 MHz, and the mask goes on to 30 MHz"
+        assert outcomes["symbol clock"].value == pytest.approx(0, abs=0.5) and outcomes["centre frequency"].value == pytest.approx(0, abs=0.1)
         assert mask.value > 3 and 9.0 < abs(float(mask.where.split()[0])) < 13
+
+
+def spectra_of(density, segments, random):
+    """What so many segments of Gaussian noise of a density give, an even number: a mean of independent exponential values in each bin."""
+    powers = density * random.gamma(segments // 2, 1.0, (2, 1, density.size))
+    return Spectrum(powers, np.full(2, segments // 2))
+
+
+@pytest.mark.parametrize("shape", ["level", "sloped", "humped"])
+@pytest.mark.parametrize("segments", [20, 60, 200])
+def test_the_interval_of_the_mask(shape, segments):
+    """Of 300 spectra whose distance below the mask is known 90 % and more have it in their interval.
+
+    Nowhere does a spectrum seem farther below it in the mean, as it would with 0 dBr from the largest of noisy densities; a slope,
+    whose largest density is at one end, seems nearer by up to 0.8 dB.
+    """
+    random, trials = np.random.default_rng(segments), 300
+    offsets = np.fft.fftfreq(1232, 1 / 61.44e6)
+    mask = limits.mask_at(offsets, 20, "5 GHz")
+    inside = np.abs(offsets) < 8.9e6
+    level = np.where(inside, np.clip(offsets / 9e6, -1, 1) * (2.0 if shape == "sloped" else 0.0), mask - 6)
+    level = np.where((np.abs(offsets - 15e6) < 3e5) & (shape == "humped"), mask - 1, level)
+    shown = (np.abs(offsets) < 30.5e6) & (mask < 0)
+    known = level[inside].max() - np.max((level - mask)[shown])
+    found = []
+    for _ in range(trials):
+        packet = replace(blank(Rate(20, 0)), spectrum=spectra_of(10 ** (level / 10), segments, random), silence=spectrum_of(np.zeros((1, 0)), 61.44e6))
+        curve = mask_curve([packet], CARRIER, 61.44e6)
+        found.append((curve.margin, *curve.interval))
+    margins, low, high = np.array(found).T
+    assert np.mean((low <= known) & (known <= high)) >= 0.9 and np.mean(low > known) < 0.05
+    assert (known - 0.8 if shape == "sloped" else known - 0.2) < np.mean(margins) < known + 0.2
+
+
+def test_halves_of_spectra_are_even():
+    """Segments of packets that have one each come into either half in turn, and of one segment alone there are no halves."""
+    random = np.random.default_rng(1)
+    spectra = [spectrum_of(random.standard_normal((1, 401)) + 0j, 20e6) for _ in range(7)]
+    assert [each.segments.tolist() for each in spectra] == [[1, 0]] * 7
+    whole = summed(spectra)
+    assert sorted(whole.segments.tolist()) == [3, 4] and np.allclose(whole.density, np.mean([each.density for each in spectra], axis=0))
+    assert not np.allclose(*whole.halves) and np.array_equal(*spectra[0].halves) and np.array_equal(spectra[0].halves[0], spectra[0].density)
+
+
+def test_too_few_segments_give_no_verdict():
+    for samples, outcome in ((401 + 18 * 200, "no verdict: 19 of 20 segments of 20 microseconds"), (401 + 19 * 200, "fail")):
+        random = np.random.default_rng(2)
+        noise = random.standard_normal((1, samples)) + 1j * random.standard_normal((1, samples))
+        packet = replace(blank(Rate(20, 0)), spectrum=spectrum_of(noise, 20e6))
+        made = next(each for each in findings([packet], CARRIER, 0.1, 20e6) if each.limit.test == "spectral mask")
+        assert made.outcome == f"no verdict: 1 of 2 frames{'; 19 of 20 segments of 20 microseconds' if outcome != 'fail' else ''}"
+        halved = [replace(packet, spectrum=spectrum_of(part, 20e6)) for part in (noise[:, :2201], noise[:, 2000:])]
+        made = next(each for each in findings(halved, CARRIER, 0.1, 20e6) if each.limit.test == "spectral mask")
+        assert made.outcome == outcome
+
+
+def test_an_antenna_that_hears_nothing_has_no_mask():
+    """One with the recorder's noise alone, 40 dB below the other, isn't held beside the mask; where all is noise there is no verdict, nor a failure."""
+    flat = lambda offsets: np.where(np.abs(offsets) < 8.9e6, 0.0, -50.0)  # noqa: E731
+    heard, noise = shaped(flat, 61.44e6, count=1 << 18), shaped(np.zeros_like, 61.44e6, 2, 1 << 18) * 0.01
+    assert masked(np.concatenate((noise, heard)), 61.44e6, 20, np.concatenate((noise, noise * 0.001))).verdict == "pass"
+    assert re.fullmatch(r"no verdict: from 9\.0 MHz on the recorder's own noise reaches the mask", masked(noise, 61.44e6, 20, noise).outcome)

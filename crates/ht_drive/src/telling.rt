@@ -21,17 +21,7 @@ use std::alloc::Global;
 use std::sync::Wait;
 use std::thread::Threads;
 
-// Who runs blocks, and how many jobs may be given and not yet taken.
-#[derive(Drop)]
-struct Crew<'c, T, W> {
-    rt: &'c T,
-    alloc: Global,
-    workers: u8,
-    window: u16,
-    work: &'c W,
-}
-
-// Has a crew run all blocks of a desk that gave none yet.
+// Has workers run all blocks of a desk that gave none yet.
 fn run_desk<
     T: Threads + Wait + Sync,
     R: BlockReader + Drop,
@@ -40,7 +30,11 @@ fn run_desk<
     A: Account<R>,
     W: Work<R::Block, Answer = A::Answer> + Sync,
 >(
-    crew: &Crew<'_, T, W>,
+    rt: &T,
+    alloc: Global,
+    workers: u8,
+    window: u16,
+    work: &W,
     desk: &mut D,
     source: &mut S,
     account: &mut A,
@@ -49,8 +43,8 @@ fn run_desk<
 where
     R::Block: Shared + Send + Sync,
     A::Answer: Send + Sync,
-    requires crew { IsCrewSize crew.now.workers }
-    requires window { IsWindowSize crew.now.window }
+    requires crew { IsCrewSize workers }
+    requires window { IsWindowSize window }
     requires fresh { IsFreshFeed (feed_view R.counts (D.seen desk.old) failed.old) }
     ensures runs { RunsDesk (seen_by R.means R.at (D.seen desk.old) (S.shown source.old) (telling_of A.shown A.pieces A.waits account.old))
         (seen_by R.means R.at (D.seen desk.new) (S.shown source.new) (telling_of A.shown A.pieces A.waits account.new))
@@ -58,14 +52,7 @@ where
     ensures same { A.lent account.new ≡ A.lent account.old }
 {
     let mut feed = DeskFeed::new(desk, source, account, failed);
-    drive(
-        crew.rt,
-        crew.alloc,
-        crew.workers,
-        crew.window,
-        crew.work,
-        &mut feed,
-    )
+    drive(rt, alloc, workers, window, work, &mut feed)
 }
 
 /// Does as [`tell_alone`](ht_feed::tell_alone), and the blocks are run by 1 to 64 workers, of which the caller is one.
@@ -100,14 +87,17 @@ where
         (A.lent account.old) (A.lent account.new) result }
 {
     let mut desk = Desk::new(alloc, reader, head, window)?;
-    let crew = Crew {
+    let mut failed = None;
+    let driven = run_desk(
         rt,
         alloc,
         workers,
         window,
         work,
-    };
-    let mut failed = None;
-    let driven = run_desk(&crew, &mut desk, source, account, &mut failed);
+        &mut desk,
+        source,
+        account,
+        &mut failed,
+    );
     end_of(&desk, driven)
 }

@@ -10,7 +10,7 @@ use Rattle.ht_feed.specs.Items.{Item, Begins, One, Headed, headed, jobs_of}
 use Rattle.ht_feed.specs.Dues.{Due, all_due, headed_due}
 use Rattle.ht_feed.specs.Accounts.{BooksJobs, Telling}
 use Rattle.ht_feed.specs.Desks.{DeskView, ReadsMore, standing}
-use Rattle.ht_feed.specs.Leading.{reads_none, tells-on}
+use Rattle.ht_feed.specs.Leading.{reads_none}
 use Rattle.ht_feed.specs.Telling.{Seen, Tells, TellsBy, TellsPart, seen_by}
 
 length-headed : {H : Type 0} (head : H) (items : List (Item H)) → length (headed head items) ≡ length (jobs_of items)
@@ -127,14 +127,6 @@ module _ {R H P : Type 0} (means : R → List ℕ → Meaning (Item H)) (at : R 
   tells_refused old new source a b fault is books =
       subst (λ (d : DeskView R H). TellsPart (seen_by means at old source a) (seen_by means at d source b) fault) (sym is)
       (tells_part old source a b fault (all_due (take 1 old.due)) (all_due (drop 1 old.due)) (all_due-first old.due) books)
-
-module _ {R H P : Type 0} {means : R → List ℕ → Meaning (Item H)} {at : R → ℕ} where
-  -- the desk read on, and so it has gone on from where it began
-  pub read_on : {first : Seen H P} {old new : DeskView R H} {source after : Device ℕ} {account : Telling H P}
-      → ReadsMore means at old new source after → Tells first (seen_by means at old source account)
-      → ((due : List (Headed H)) (h : Headed H) → account.Waits due → account.Waits (due ++ h ∷ [])) → Tells first (seen_by means at new after account)
-  read_on {first} {old} {new} {source} {after} {account} r told more =
-      tells-on first (seen_by means at old source account) (seen_by means at new after account) told (tells_given means at old new source after account more r)
 
 -- none failed before
 pub well : {H P : Type 0} (x y : Option BookFault) (old new : Seen H P) → x ≡ None → y ≡ x → Tells old new → TellsBy x y old new

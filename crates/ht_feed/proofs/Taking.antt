@@ -1,5 +1,5 @@
 -- The first block due is taken.
-use Rattle.std.proofs.Common.{◌≡◌, ℕ, List, [], ◌∷◌, ◌++◌, drop, take, slice_get, None, Some, Result, ap, ◌∙◌, sym, subst, append-nil}
+use Rattle.std.proofs.Common.{◌≡◌, ℕ, List, [], ◌∷◌, drop, take, slice_get, None, Some, Result, ap, ◌∙◌, sym, subst, append-nil}
 use Rattle.std.proofs.lemmas.Option.{none-some, same_Some}
 use Rattle.ht_io.specs.Devices.{Device}
 use Rattle.ht_metric.specs.Jobs.{JobView}
@@ -34,10 +34,6 @@ module _ {H : Type 0} where
 
   first_all : (due : List (Due H)) (d : Due H) → due ≡ d ∷ drop 1 due → all_due (take 1 due) ≡ headed_due d
   first_all due d is = ap (λ (bs : List (Due H)). all_due (take 1 bs)) is ∙ append-nil (headed_due d)
-
-  -- a block that was due alone is due no longer
-  pub one_gone : (old new : List (Due H)) (d : Due H) → old ≡ [] → new ≡ old ++ d ∷ [] → drop 1 new ≡ []
-  one_gone old new d none is = ap (λ (ds : List (Due H)). drop 1 ds) (is ∙ ap (λ (ds : List (Due H)). ds ++ d ∷ []) none)
 
   -- the hits of a block were taken, which is the first one due
   module _ {A P : Type 0} {result : Result A BookFault} {a b : Device P} {old new : List (Headed H) → List P} {lent lent' : List ℕ} where

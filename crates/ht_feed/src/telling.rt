@@ -1,18 +1,21 @@
 //! A whole input, and what becomes of its hits.
-ghost use Rattle.std.specs.Prelude.{◌≡◌, ◌-◌, ◌<◌, [], None, true, is_some, OnOk};
+ghost use Rattle.std.specs.Prelude.{◌≡◌, [], true, is_some, OnOk};
 ghost use Rattle.ht_feed.specs.Accounts.{telling_of};
+ghost use Rattle.ht_feed.specs.Desks.{feed_view};
+ghost use Rattle.ht_feed.specs.Feeds.{IsFreshFeed};
 ghost use Rattle.ht_feed.specs.Inputs.{TellsInput};
 ghost use Rattle.ht_feed.specs.Limits.{IsWindowSize};
 ghost use Rattle.ht_feed.specs.Reading.{IsFreshReader};
-ghost use Rattle.ht_feed.specs.Stops.{ended_by, failed_by};
+ghost use Rattle.ht_feed.specs.Stops.{ended_by};
 ghost use Rattle.ht_feed.specs.Telling.{RunsDesk, seen_by};
 
 use crate::account::Account;
 use crate::answer::Work;
 use crate::book_fault::BookFault;
 use crate::desk::Desk;
+use crate::desk_feed::DeskFeed;
 use crate::desking::Desking;
-use crate::drive::DriveFault;
+use crate::drive::{DriveFault, drive_alone};
 use crate::ended::Ended;
 use crate::reader::BlockReader;
 use crate::stop::Stop;
@@ -43,34 +46,30 @@ pub fn end_of<R: BlockReader + Drop, T: Drop>(
     }
 }
 
-// Runs all blocks of a desk of which none is due, in this thread, one after another.
-fn run_desk<R: BlockReader + Drop, S: Source, A: Account<R>, W: Work<R::Block, Answer = A::Answer>>(
+// Runs all blocks of a desk that gave none yet, in this thread, one after another.
+fn run_desk<
+    R: BlockReader + Drop,
+    D: Desking<R>,
+    S: Source,
+    A: Account<R>,
+    W: Work<R::Block, Answer = A::Answer>,
+>(
     window: u16,
     work: &W,
-    desk: &mut Desk<R>,
+    desk: &mut D,
     source: &mut S,
     account: &mut A,
-) -> Result<(), DriveFault<BookFault>>
+    failed: &mut Option<BookFault>,
+) -> Result<u64, DriveFault<BookFault>>
     requires window { IsWindowSize window }
-    requires going { desk.old.stop ≡ None }
-    requires none { desk.old.due ≡ [] }
-    ensures runs { RunsDesk (seen_by R.means R.at desk.old (S.shown source.old) (telling_of A.shown A.pieces A.waits account.old))
-        (seen_by R.means R.at desk.new (S.shown source.new) (telling_of A.shown A.pieces A.waits account.new)) desk.new None (failed_by result) result }
+    requires fresh { IsFreshFeed (feed_view R.counts (D.seen desk.old) failed.old) }
+    ensures runs { RunsDesk (seen_by R.means R.at (D.seen desk.old) (S.shown source.old) (telling_of A.shown A.pieces A.waits account.old))
+        (seen_by R.means R.at (D.seen desk.new) (S.shown source.new) (telling_of A.shown A.pieces A.waits account.new))
+        (D.seen desk.new) failed.old failed.new result }
     ensures same { A.lent account.new ≡ A.lent account.old }
 {
-    loop {
-        let block = match desk.next(window, source) {
-            Ok(Some(block)) => block,
-            Ok(None) => return Ok(()),
-            Err(_) => return Err(DriveFault::Feed(BookFault::NoMemory)),
-        };
-        let Ok(answer) = work.answer_to(&block) else {
-            return Err(DriveFault::Work);
-        };
-        if let Err(fault) = desk.take(&block, &answer, account) {
-            return Err(DriveFault::Feed(fault));
-        }
-    }
+    let mut feed = DeskFeed::new(desk, source, account, failed);
+    drive_alone(window, work, &mut feed)
 }
 
 /// Reads the input of a reader that gave nothing yet to its end or its first fault, and hands the hits of its jobs to
@@ -106,6 +105,7 @@ pub fn tell_alone<
         (A.lent account.old) (A.lent account.new) result }
 {
     let mut desk = Desk::new(alloc, reader, head, 1)?;
-    let driven = run_desk(window, work, &mut desk, source, account);
+    let mut failed = None;
+    let driven = run_desk(window, work, &mut desk, source, account, &mut failed);
     end_of(&desk, driven)
 }

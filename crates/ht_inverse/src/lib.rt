@@ -36,6 +36,7 @@ pub mod laws;
 mod octets;
 mod outcome;
 mod share;
+mod spots;
 mod table;
 mod together;
 

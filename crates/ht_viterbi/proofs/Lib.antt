@@ -16,3 +16,5 @@ pub mod Carried
 pub mod Turns
 pub mod Filling
 pub mod Explaining
+pub mod Looking
+pub mod Packing

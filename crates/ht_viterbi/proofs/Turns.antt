@@ -27,7 +27,7 @@ kept-in pattern period first phase is begins lt =
     ∙ ap (λ (n : ℕ). get_or (period_of pattern) n Both) (sym (phase-in pattern first phase begins lt))
 
 -- where the places of the next step begin
-start-next : (pattern : Pattern) (steps at next start width : ℕ) (kept : Kept) → at < steps → next ≡ at + 1 → start ≡ sent_count pattern at
+pub start-next : (pattern : Pattern) (steps at next start width : ℕ) (kept : Kept) → at < steps → next ≡ at + 1 → start ≡ sent_count pattern at
     → kept ≡ kept_of pattern at → width ≡ kept_count kept
     → (start + width ≡ sent_count pattern next) × (start + width ≤ sent_count pattern steps)
 start-next pattern steps at next start width kept lt more is kept-is width-is =

@@ -4,3 +4,4 @@ pub mod Received
 pub mod Trellis
 pub mod Lanes
 pub mod Explained
+pub mod Packed

@@ -1,22 +1,25 @@
 //! The decoder: all 64 states at once, their costs modulo 256. The ways of a state cost so nearly the same that their
 //! difference modulo 256 says which is the lesser.
-ghost use Rattle.std.specs.Prelude.{◌≡◌, ◌+◌, ◌%◌, ◌<◌, ◌≤◌, ◌^◌, ◌↔◌, ℕ, true, false, IfOk};
-ghost use Rattle.std.specs.Prelude.{length, drop, map, replicate, slice_index};
+ghost use Rattle.std.specs.Prelude.{◌≡◌, ◌+◌, ◌%◌, ◌<◌, ◌≤◌, ◌^◌, ◌*◌, ◌↔◌, ℕ, true, false, IfOk};
+ghost use Rattle.std.specs.Prelude.{length, drop, map, replicate, slice_index, vec_capacity};
 ghost use Rattle.std.specs.Int.{bit_at};
 ghost use Rattle.ht_conv.specs.Puncturing.{sent_count};
 ghost use Rattle.ht_viterbi.specs.Inputs.{IsFound, place_cost, tail};
 ghost use Rattle.ht_viterbi.specs.Trellis.{StepCosts, branch_cost, way, chosen, lesser, least_from, AreChoices};
 ghost use Rattle.ht_viterbi.specs.Lanes.{HasLanes, HoldsRows, IsClose, IsLight, rise, steps_at};
+ghost use Rattle.ht_viterbi.specs.Packed.{packed};
 ghost use Rattle.ht_viterbi.specs.Received.{known_of};
 
 use crate::branches::{Branches, costs_of_zero, lanes_of, rises};
 use crate::clean::explain;
 use crate::codeword::Codeword;
 use crate::lanes::{after_zero, differences, falls, negative, sums, with_one};
+use crate::packed::{explain_packed, is_one};
 use crate::received_bit::ReceivedBit;
 use crate::rows::fill_rows;
 use crate::walk::forwards;
 use ht_bits::Bits;
+use ht_conv::sent;
 use ht_rate::Pattern;
 use std::alloc::{AllocError, Global};
 use std::simd::prelude::*;
@@ -136,6 +139,33 @@ fn backwards(rows: &[u8], choices: &mut [u64]) -> u32
     distance
 }
 
+// Decodes a codeword that isn't clean.
+fn decode_in_lanes(
+    alloc: Global,
+    steps: u32,
+    pattern: Pattern,
+    received: &[ReceivedBit],
+    room: Vec<bool>,
+) -> Result<Codeword, AllocError>
+    requires least { tail ≤ steps }
+    requires most { steps ≤ 524302 }
+    requires received { length received.now ≡ sent_count pattern steps }
+    requires room { steps ≤ vec_capacity room }
+    ensures { IfOk result (λ c. IsFound place_cost steps pattern (map known_of received.now) c.input c.distance) }
+{
+    let mut input = room;
+    input.clear();
+    let mut rows = Vec::from_elem(alloc, 0u8, steps as usize)?;
+    let mut choices = Vec::from_elem(alloc, 0u64, steps as usize)?;
+    fill_rows(pattern, received, rows.as_mut_slice());
+    let distance = backwards(&rows, choices.as_mut_slice());
+    forwards(&choices, &mut input);
+    Ok(Codeword {
+        input: Bits::from(input),
+        distance,
+    })
+}
+
 /// Decodes a punctured codeword: the first terminated input whose coded bits are nearest to `received`.
 ///
 /// `steps` is the length of the input with its tail of six zeros, from 6 to 524302. `received` has the coded bits
@@ -162,16 +192,48 @@ pub fn decode_received(
             distance: 0,
         });
     }
-    input.clear();
-    let mut rows = Vec::from_elem(alloc, 0u8, steps as usize)?;
-    let mut choices = Vec::from_elem(alloc, 0u64, steps as usize)?;
-    fill_rows(pattern, received, rows.as_mut_slice());
-    let distance = backwards(&rows, choices.as_mut_slice());
-    forwards(&choices, &mut input);
-    Ok(Codeword {
-        input: Bits::from(input),
-        distance,
-    })
+    decode_in_lanes(alloc, steps, pattern, received, input)
+}
+
+/// Decodes a punctured codeword of which no place is erased, as [`decode_received`] does, from places that are packed into
+/// words: 60 to a word ([`WORD_PLACES`](crate::WORD_PLACES)), the first one lowest. What the words hold behind the places of
+/// these steps counts for nothing.
+///
+/// A clean codeword takes a look into a table for three to five steps. Any other one takes an octet more for each place.
+///
+/// IEEE Std 802.11-2012, clauses 18.3.5.6 and 20.3.11.6.
+pub fn decode_packed(
+    alloc: Global,
+    steps: u32,
+    pattern: Pattern,
+    words: &[u64],
+) -> Result<Codeword, AllocError>
+    requires least { tail ≤ steps }
+    requires most { steps ≤ 524302 }
+    requires places { sent_count pattern steps ≤ 60 * length words.now }
+    ensures { IfOk result (λ c. IsFound place_cost steps pattern (packed words.now (sent_count pattern steps)) c.input c.distance) }
+{
+    let mut input = Vec::with_capacity(alloc, steps as usize)?;
+    if explain_packed(pattern, steps as usize, words, &mut input) {
+        return Ok(Codeword {
+            input: Bits::from(input),
+            distance: 0,
+        });
+    }
+    let received = unpacked(alloc, words, sent(pattern, steps) as usize)?;
+    decode_in_lanes(alloc, steps, pattern, &received, input)
+}
+
+// The first places of words as received bits.
+fn unpacked(alloc: Global, words: &[u64], count: usize) -> Result<Vec<ReceivedBit>, AllocError>
+    requires { count ≤ 60 * length words.now }
+    ensures { IfOk result (λ bits. map known_of bits.items ≡ packed words.now count) }
+{
+    let mut bits = Vec::with_capacity(alloc, count)?;
+    for place in 0..count {
+        bits.push_reserved(ReceivedBit::of(Some(is_one(words, place))));
+    }
+    Ok(bits)
 }
 
 /// Decodes a punctured codeword as [`decode_received`] does, with None where a place is erased. It takes one octet more

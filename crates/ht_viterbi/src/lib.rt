@@ -32,6 +32,8 @@ mod cost_lanes;
 mod decoder;
 mod lanes;
 pub mod laws;
+mod lookup;
+mod packed;
 mod pairs;
 mod place;
 mod plain;
@@ -42,7 +44,8 @@ mod weights;
 mod words;
 
 pub use codeword::{Cheapest, Codeword};
-pub use decoder::{decode, decode_received};
+pub use decoder::{decode, decode_packed, decode_received};
+pub use packed::WORD_PLACES;
 pub use place::Place;
 pub use plain::{decode_places, plain_decode};
 pub use received_bit::ReceivedBit;

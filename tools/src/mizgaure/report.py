@@ -1,4 +1,4 @@
-"""One page on captures, in HTML: a file that asks no net for anything, with its pictures inside. It needs matplotlib.
+"""One page on captures, recordings and sweeps, in HTML: a file that asks no net for anything, with its pictures inside. It needs matplotlib.
 
 The pictures are drawn small and stand beside one another where there is room, so that the page is read on a screen of any
 width.
@@ -154,7 +154,7 @@ class RecordingReport:
 
 
 def examine_recording(recording: Recording, name: str, packets: Sequence[Measured], frequency: Optional[float],
-                      reference: Optional[float], said: Sequence[Tuple[str, str]] = ()) -> RecordingReport:
+                      reference: Optional[float], said: Sequence[Tuple[str, str]] = (), unmeasured: str = "") -> RecordingReport:
     """Hold the packets of a recording beside the standard's limits, and draw them.
 
     Parameters
@@ -168,13 +168,15 @@ def examine_recording(recording: Recording, name: str, packets: Sequence[Measure
         By how many parts per million the recorder's own clock may be wrong.
     said : sequence of (str, str)
         What the recording's metadata say of how it was made.
+    unmeasured : str
+        How many other packets there are, and why they aren't measured.
     """
     rate = recording.layout.rate
     found = findings(packets, frequency, reference, rate)
     offsets, noises = [packet.offset / 1e3 for packet in packets], [packet.noise for packet in packets]
     facts = [("samples", f"{recording.length:,} instants of {recording.layout.channels} antennas, {recording.layout.datatype}, "
                          f"{rate / 1e6:g} million a second, {recording.seconds(recording.length):.6f} s"),
-             ("carrier", "not known" if frequency is None else f"{frequency / 1e6:g} MHz"), ("packets", str(len(packets))),
+             ("carrier", "not known" if frequency is None else f"{frequency / 1e6:g} MHz"), ("packets", f"{len(packets)} measured" + (f"; {unmeasured}" if unmeasured else "")),
              ("offset of the carrier", f"{np.mean(offsets):+.3f} kHz in the mean, {min(offsets):+.3f} to {max(offsets):+.3f} kHz"),
              ("noise of a subcarrier", f"{np.mean(noises):.1f} dB beside the signal in the mean, {min(noises):.1f} to {max(noises):.1f} dB"),
              ("the recorder's own clock", "by how much it may be wrong isn't said" if reference is None else f"wrong by at most {reference:g} ppm, as was said"),
@@ -289,7 +291,7 @@ figure img { display: block; max-width: calc(100vw - 3rem); height: auto; }
 """
 
 
-def page(captures: Sequence[CaptureReport], title: str = "Captures, measured", facts: Sequence[Tuple[str, str]] = (),
+def page(captures: Sequence[CaptureReport], title: str, facts: Sequence[Tuple[str, str]] = (),
          recordings: Sequence[RecordingReport] = (), sweeps: Sequence[Tuple[str, Sweep]] = ()) -> str:
     """The page.
 
@@ -311,8 +313,7 @@ def page(captures: Sequence[CaptureReport], title: str = "Captures, measured", f
     parts = ["<!DOCTYPE html>", '<html lang="en">', "<head>", '<meta charset="utf-8">',
              '<meta name="viewport" content="width=device-width, initial-scale=1">', f"<title>{_text(title)}</title>", f"<style>{STYLES}</style>",
              "</head>", "<body>", f"<h1>{_text(title)}</h1>",
-             '<p class="quiet">Nearest vectors and octets are those that Mizgaure\'s program radio found. The program is proved; '
-             "this page and its measures are tested and not proved.</p>"]
+             f'<p class="quiet">{_text(_origin(bool(captures), bool(recordings), bool(sweeps)))}</p>']
     if facts:
         parts += ['<dl class="facts">', *(f"<dt>{_text(name)}</dt><dd><code>{_text(value)}</code></dd>" for name, value in facts), "</dl>"]
     figures = _Figures()
@@ -327,6 +328,14 @@ def page(captures: Sequence[CaptureReport], title: str = "Captures, measured", f
     if recordings:
         parts += ["<h2>Signed</h2>", *_table(SIGNED, [["&nbsp;"] * len(SIGNED)], "sign")]
     return "\n".join([*parts, "</body>", "</html>", ""])
+
+
+def _origin(captures: bool, recordings: bool, sweeps: bool) -> str:
+    """By what the page's values were found, in words."""
+    parts = (("Nearest vectors and octets of captures are those that Mizgaure's program radio found, which is proved.", captures),
+             ("What is said of recordings is found by these tools alone: the program takes no part in it.", recordings),
+             ("Sweeps are shown as they were kept.", sweeps), ("This page and its measures are tested and not proved.", True))
+    return " ".join(sentence for sentence, said in parts if said)
 
 
 def _text(text: object) -> str:
@@ -409,13 +418,12 @@ def _recording_parts(recording: RecordingReport, figures: _Figures) -> List[str]
 
 
 def _finding_row(finding: Finding) -> List[str]:
-    low, high = finding.interval
     where = f" at {finding.where}" if finding.where else ""
     good = None if finding.verdict is None else finding.verdict == PASS
     asked = f"{finding.frames}, {finding.limit.frames} asked for" + ("" if finding.limit.named else "; the clause names no number")
     verdict = f'<span class="quiet">{_text(finding.unsure)}</span>' if finding.is_for_show else _verdict(good, finding.outcome)
     return [_text(finding.limit.test), finding.limit.clause, _text(finding.subject + where), _text(finding.bounds), f"{finding.value:.2f} {finding.unit}",
-            f"{low:.2f} to {high:.2f}" if finding.frames > 1 else "one frame gives none", asked, verdict]
+            finding.spread, asked, verdict]
 
 
 def _sweep_parts(name: str, found: Sweep, figures: _Figures) -> List[str]:

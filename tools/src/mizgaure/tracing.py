@@ -8,7 +8,7 @@ import platform
 import shlex
 import subprocess
 from datetime import datetime, timezone
-from typing import Iterator, List, Sequence, Tuple
+from typing import Iterator, List, Optional, Sequence, Tuple
 
 import numpy as np
 
@@ -54,20 +54,20 @@ def program_facts(path: str) -> Iterator[Tuple[str, str]]:
     yield "version and toolchain of the program", said or "not known: this program doesn't say it, as the script radio does"
 
 
-def facts(words: Sequence[str], program: str, inputs: Sequence[str]) -> List[Tuple[str, str]]:
+def facts(words: Sequence[str], program: Optional[str], inputs: Sequence[str]) -> List[Tuple[str, str]]:
     """What stands at the head of a report, as names and values.
 
     Parameters
     ----------
     words : sequence of str
         The command.
-    program : str
-        The path of the program.
+    program : str, optional
+        The path of the program, where it was run.
     inputs : sequence of str
         The files that were read.
     """
     made = [("made", f"{datetime.now(timezone.utc):%Y-%m-%d %H:%M:%S} UTC"), ("command", shlex.join(words)),
-            ("tools", f"mizgaure tools {__version__}, Python {platform.python_version()}, numpy {np.__version__}"), *program_facts(program)]
+            ("tools", f"mizgaure tools {__version__}, Python {platform.python_version()}, numpy {np.__version__}"), *(program_facts(program) if program else ())]
     for path in inputs:
         octets, digest = digest_of(path)
         made.append((f"SHA-256 of {path}", f"{digest} ({octets:,} octets)"))

@@ -11,13 +11,13 @@ import json
 import os
 from collections import Counter
 from dataclasses import asdict, dataclass
-from typing import Any, Dict, Iterator, List, Optional, Sequence, cast
+from typing import Any, Callable, Dict, Iterable, Iterator, List, Optional, Sequence, cast
 
 import numpy as np
 
 from ..errors import InputError
 from ..files import naming, reading, writing
-from ..formats import SentFrame, read_htsy, read_httx, write_httx
+from ..formats import SentFrame, SymbolsFrame, read_htsy, read_httx, write_httx
 from ..measures import Proportion
 from ..packets import read_pcap, with_fcs
 from ..program import Radio
@@ -84,8 +84,8 @@ class Challenge:
         """The recording's rate in units of 20 million samples a second: the least one that has the packets, and the neighbour where there is one."""
         return self.bandwidth // 20 if self.neighbour is None else least_oversampling(self.bandwidth, self.test == "nonadjacent")
 
-    def write(self, folder: str, radio: Radio, seed: int, force: bool) -> None:
-        """Write the recording and the frames that were sent.
+    def write(self, folder: str, radio: Radio, seed: int, force: bool, done: Callable[[int], None] = lambda count: None) -> None:
+        """Write the recording and the frames that were sent; ``done`` is told of each packet.
 
         Raises
         ------
@@ -104,7 +104,7 @@ class Challenge:
         factor = 10 ** ((self.level - self.full_scale) / 20) / LEVEL
 
         def fill(writer: Writer) -> None:
-            record_packets(read_htsy(symbols), scene, layout.channels, over, cast(Writer, _Scaled(writer, factor)))
+            record_packets(_told(read_htsy(symbols), done), scene, layout.channels, over, cast(Writer, _Scaled(writer, factor)))
 
         write_recording(base, layout, fill, frequency=scene.frequency, force=force,
                         description=f"{self.limit.test}, clause {self.limit.clause}: {self.level:g} dBm, full scale {self.full_scale:g} dBm")
@@ -120,6 +120,13 @@ class Challenge:
             body = HEADER[:22] + (number % 4096 << 4).to_bytes(2, "little") + HEADER[24:] + random.bytes(max(0, self.length - len(HEADER) - 4))
             made.append(SentFrame(rate, with_fcs(body[: self.length - 4]), number % 127 + 1))
         return made
+
+
+def _told(frames: Iterable[SymbolsFrame], done: Callable[[int], None]) -> Iterator[SymbolsFrame]:
+    """Frames as they are taken, each told of when the next one is asked for."""
+    for frame in frames:
+        yield frame
+        done(1)
 
 
 class _Scaled:

@@ -36,11 +36,6 @@ class Form:
     greenfield: bool = False
 
     @property
-    def is_plain(self) -> bool:
-        """Whether it is in HT-mixed format, and its spatial streams are its space-time streams."""
-        return not (self.stbc or self.greenfield)
-
-    @property
     def streams(self) -> int:
         """The number of space-time streams N_STS, 1 to 4."""
         return self.rate.streams + self.stbc

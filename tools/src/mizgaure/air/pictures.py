@@ -20,8 +20,9 @@ if TYPE_CHECKING:
     from matplotlib.figure import Figure
 
 BINS, SHOWN = 512, 1 << 22  # frequencies of a spectrum, and how many samples it is made of at most
-# The fields in front of the HT-LTFs, each with its beginning and its end in microseconds.
+# The fields in front of the HT-LTFs, and in greenfield format in front of the second one, each with its beginning and its end in microseconds.
 FIELDS = (("L-STF", 0, 8), ("L-LTF", 8, 16), ("L-SIG", 16, 20), ("HT-SIG", 20, 28), ("HT-STF", 28, 32))
+GREENFIELD_FIELDS = (("HT-GF-STF", 0, 8), ("HT-LTF1", 8, 16), ("HT-SIG", 16, 24))
 
 
 def frame_of(recording: Recording, number: int) -> Packet:
@@ -37,7 +38,7 @@ def frame_of(recording: Recording, number: int) -> Packet:
         if packet.left_out is None:
             if count == number:
                 if packet.untracked is None:
-                    raise InputError(f"packet {number} of {recording.name} is in greenfield format or has STBC, and isn't drawn")
+                    raise InputError(f"packet {number} of {recording.name} has STBC, and isn't drawn")
                 return packet
             count += 1
     frames = "1 packet" if count == 1 else f"{count} packets"
@@ -97,7 +98,7 @@ def preamble(recording: Recording, number: int, name: str = "") -> "Figure":
     rate, over = packet.frame.rate, oversampling_of(recording)
     front = 12 * 20 * over
     first = max(0, packet.sample - front)
-    fields = _fields(rate)
+    fields = _fields(rate, packet.is_greenfield)
     count = packet.sample - first + int((fields[-1][2] + 4) * 20 * over)
     samples = recording.read(first, count + 2 * TRANSFORM * over).astype(complex)
     times = (np.arange(count) + first - packet.sample) / (20 * over)
@@ -134,10 +135,10 @@ def _share(samples: np.ndarray, before: np.ndarray, window: int) -> np.ndarray:
     return np.abs(products) ** 2 / np.maximum(energies[0] * energies[1], 1e-300)
 
 
-def _fields(rate: Rate) -> List[Tuple[str, float, float]]:
-    fields = [*FIELDS]
-    for n in range(TRAINING_FIELDS[rate.streams - 1]):
-        fields.append((f"HT-LTF{n + 1}", 32 + 4 * n, 36 + 4 * n))
+def _fields(rate: Rate, greenfield: bool) -> List[Tuple[str, float, float]]:
+    fields = [*(GREENFIELD_FIELDS if greenfield else FIELDS)]
+    for n in range(int(greenfield), TRAINING_FIELDS[rate.streams - 1]):
+        fields.append((f"HT-LTF{n + 1}", fields[-1][2], fields[-1][2] + 4))
     return [*fields, ("data", fields[-1][2], fields[-1][2] + 4)]
 
 

@@ -57,7 +57,7 @@ class Packet:
     frame : MeasuredFrame, optional
         Where it isn't left out.
     untracked : ndarray of complex64, shape (symbols, subcarriers, antennas), optional
-        The received vectors before phase and timing were tracked, where that was asked for, and `Form.is_plain`.
+        The received vectors before phase and timing were tracked, where that was asked for, and it has no STBC.
     clipped : float
         The share of its parts that are as large as its largest one.
     middles : tuple of int
@@ -321,7 +321,7 @@ class _HtPart:
         received = self._vectors(begins)
         if received is None:
             return None, None
-        untracked = received.copy() if keep and form.is_plain else None
+        untracked = None if form.stbc or not keep else received.copy()
         places, sent = standard.pilot_places(rate.bandwidth), standard.pilots(rate, symbols, form.streams, form.first_polarity)
         expected = np.ascontiguousarray(np.matmul(sent.transpose(1, 0, 2), self.channel[places].transpose(0, 2, 1)).transpose(1, 0, 2))
         pilots, powers = combined(received[:, places], expected), np.sum(expected.real**2 + expected.imag**2, axis=2)

@@ -18,19 +18,20 @@ from ..measures import decibels
 from ..rates import Rate
 from . import limits, standard
 from .channels import LOWER, UPPER
-from .form import MIXED_TRAINING
+from .form import GREENFIELD_TRAINING, MIXED_TRAINING, Form
 from .limits import Limit
 from .receive import Packet
 from .recording import Recording
 from .resampled import Resampled
 from .spectra import FRONT
-from .standard import LONG_GUARD, SHORT_GUARD, SYMBOL, TRAINING_FIELDS, TRANSFORM
+from .standard import SYMBOL, TRANSFORM
 from .track import drift_of
 
 PASS, FAIL = "pass", "fail"
 RESOLUTION = 1e5  # Hz, in which a spectrum is measured
 BLACKMAN_HARRIS, NOISE_BANDWIDTH = (0.35875, -0.48829, 0.14128, -0.01168), 2.0044  # its terms, and its width in bins
-SEEN = 0.98  # of half the rate, up to which a recording shows a spectrum
+LOBE = 4  # bins over which the window spreads a line on either side, so as many below half the rate nothing of what is beyond is seen
+SEGMENTS = 20  # of a spectrum, from which on it is held beside the mask
 CENTRE = 3e5  # Hz round the middle that aren't taken for the largest density, since leakage stands there
 EARLY = 4  # samples at 20 MHz by which windows begin before the end of a guard interval
 DEAF = 1e-3  # of the best antenna's power, below which an antenna isn't looked at
@@ -39,22 +40,29 @@ UNHEARD = 3.0  # dB by which the recorder's own noise has to lie below the mask
 
 @dataclass(eq=False)
 class Spectrum:
-    """Power densities, summed over segments.
+    """Power densities, summed over the even segments and over the odd ones, so that one half can choose a place and the other one tell its value.
 
     Parameters
     ----------
-    powers : ndarray of float64, shape (antennas, bins)
+    powers : ndarray of float64, shape (2, antennas, bins)
         In the order of `numpy.fft.fftfreq`.
-    segments : int
+    segments : ndarray of int, shape (2,)
     """
 
     powers: np.ndarray
-    segments: int = 0
+    segments: np.ndarray
 
     @property
     def density(self) -> np.ndarray:
-        """The mean over segments."""
-        return self.powers / max(self.segments, 1)
+        """The mean over all segments: shape (antennas, bins)."""
+        return self.powers.sum(axis=0) / max(int(self.segments.sum()), 1)
+
+    @property
+    def halves(self) -> np.ndarray:
+        """The means over the even and over the odd segments, or twice that over all where one of these has none."""
+        if not self.segments.all():
+            return np.stack([self.density] * 2)
+        return self.powers / self.segments[:, None, None]
 
 
 def bins_of(rate: float) -> int:
@@ -72,10 +80,21 @@ def spectrum_of(samples: np.ndarray, rate: float) -> Spectrum:
     """The spectrum of samples of shape (antennas, instants), by overlapping segments."""
     count = bins_of(rate)
     window = window_of(count)
-    made = Spectrum(np.zeros((samples.shape[0], count)))
-    for first in range(0, samples.shape[1] - count + 1, count // 2):
-        made.powers += np.abs(np.fft.fft(samples[:, first : first + count] * window)) ** 2
-        made.segments += 1
+    made = Spectrum(np.zeros((2, samples.shape[0], count)), np.zeros(2, int))
+    for number, first in enumerate(range(0, samples.shape[1] - count + 1, count // 2)):
+        made.powers[number % 2] += np.abs(np.fft.fft(samples[:, first : first + count] * window)) ** 2
+        made.segments[number % 2] += 1
+    return made
+
+
+def summed(spectra: Iterable[Spectrum]) -> Spectrum:
+    """The spectrum over all segments of some spectra of as many bins, with as many in either half as can be."""
+    first, *others = spectra
+    made = Spectrum(first.powers.copy(), first.segments.copy())
+    for each in others:
+        turn = -1 if (made.segments[0] > made.segments[1]) == (each.segments[0] > each.segments[1]) else 1
+        made.powers += each.powers[::turn]
+        made.segments += each.segments[::turn]
     return made
 
 
@@ -97,6 +116,8 @@ class Measured:
         The power at the packet's middle beside the overall power.
     between : ndarray of float64, shape (antennas,), optional
         The same at the middle of 40 MHz, where the packet stands in one half of that.
+    values : ndarray of complex64, shape (symbols, subcarriers, streams), optional
+        Received, the channel taken off, in whole levels on data subcarriers.
     energies : ndarray of float64, shape (antennas, subcarriers)
         Of the HT-LTFs.
     errors : ndarray of float64, shape (symbols, subcarriers, streams)
@@ -125,11 +146,13 @@ class Measured:
     channel: Optional[np.ndarray] = None
     phases: Optional[np.ndarray] = None
     between: Optional[np.ndarray] = None
+    values: Optional[np.ndarray] = None
 
-    def error(self, which: str) -> float:
-        """The r.m.s. error over ``data``, ``pilot`` or ``all`` subcarriers, as the sum of formula 20-89 over one frame."""
+    def error(self, which: str, stream: Optional[int] = None) -> float:
+        """The r.m.s. error over ``data``, ``pilot`` or ``all`` subcarriers, as the sum of formula 20-89 over one frame; of one stream where that is said."""
         chosen = {"data": ~self.rate.is_pilot, "pilot": self.rate.is_pilot, "all": np.ones(self.rate.subcarriers, bool)}[which]
-        return float(np.sqrt(np.mean(self.errors[:, chosen])))
+        errors = self.errors[:, chosen]
+        return float(np.sqrt(np.mean(errors if stream is None else errors[..., stream])))
 
 
 def measure(recording: Recording, packet: Packet, behind: int = 0) -> Measured:
@@ -146,18 +169,18 @@ def measure(recording: Recording, packet: Packet, behind: int = 0) -> Measured:
     """
     assert packet.frame is not None and packet.signal is not None and packet.untracked is not None
     frame = packet.frame
-    rate, over = Rate(frame.bandwidth, frame.mcs), round(recording.layout.rate / 20e6)
-    windows = _windows(recording, packet, rate, over)
+    form, over = Form(Rate(frame.bandwidth, frame.mcs), packet.signal.short_guard, greenfield=packet.is_greenfield), round(recording.layout.rate / 20e6)
+    windows = _windows(recording, packet, form, over)
     middle = round(float(np.mean(packet.middles)))
-    power, energies = _powers(windows, rate, middle, middle)
-    between = _powers(windows, rate, middle, 0)[0] if middle in (LOWER, UPPER) else None
-    errors, clock, phases = _errors(frame, rate, packet.untracked, packet.signal.short_guard, over)
-    begin = packet.sample + (FRONT + MIXED_TRAINING) * over
+    power, energies = _powers(windows, form.rate, middle, middle)
+    between = _powers(windows, form.rate, middle, 0)[0] if middle in (LOWER, UPPER) else None
+    errors, clock, phases, values = _errors(frame, form, packet.untracked, over)
+    begin = packet.sample + (FRONT + (GREENFIELD_TRAINING if form.greenfield else MIXED_TRAINING)) * over
     spectrum = _original_spectrum(recording, min(begin, packet.end - bins_of(recording.layout.rate)), packet.end)
     silence = _original_spectrum(recording, behind, packet.sample - 2 * SYMBOL * over)
     shift = recording.shift if isinstance(recording, Resampled) else 0.0
-    return Measured(rate, errors.shape[0], middle * 312.5e3 + shift, packet.offset, clock, power, energies, errors, spectrum, silence, packet.noise,
-                    frame.channel, phases, between)
+    return Measured(form.rate, errors.shape[0], middle * 312.5e3 + shift, packet.offset, clock, power, energies, errors, spectrum, silence, packet.noise,
+                    frame.channel, phases, between, values)
 
 
 def source_of(recording: Recording) -> Recording:
@@ -173,9 +196,9 @@ def _original_spectrum(recording: Recording, first: int, behind: int) -> Spectru
     return spectrum_of(source.read(first, max(0, behind - first)), source.layout.rate)
 
 
-def _windows(recording: Recording, packet: Packet, rate: Rate, over: int) -> np.ndarray:
+def _windows(recording: Recording, packet: Packet, form: Form, over: int) -> np.ndarray:
     """The spectra of the HT-LTFs, the carrier's offset taken off: shape (fields, antennas, numbers)."""
-    begins = (FRONT + MIXED_TRAINING + LONG_GUARD - EARLY + SYMBOL * np.arange(TRAINING_FIELDS[rate.streams - 1])) * over
+    begins = (FRONT - EARLY + form.training) * over
     length = TRANSFORM * over
     samples = recording.read(packet.sample, int(begins[-1]) + length)
     samples = samples * np.exp(-2j * np.pi * packet.offset / recording.layout.rate * np.arange(samples.shape[1]))
@@ -190,11 +213,12 @@ def _powers(windows: np.ndarray, rate: Rate, middle: int, place: int) -> Tuple[n
     return leaked / (leaked + energies.sum(axis=1)), energies
 
 
-def _errors(frame: Any, rate: Rate, untracked: np.ndarray, short_guard: bool, over: int) -> Tuple[np.ndarray, float, np.ndarray]:
-    """Squared errors of points beside their mean power, the clock's drift in parts per million, and phases before and after tracking.
+def _errors(frame: Any, form: Form, untracked: np.ndarray, over: int) -> Tuple[np.ndarray, float, np.ndarray, np.ndarray]:
+    """Squared errors of points beside their mean power, the clock's drift in parts per million, phases before and after tracking, and the values.
 
-    The latter come from all of what was received, by the points decided on.
+    Phases come from all of what was received, by the points decided on.
     """
+    rate = form.rate
     factors = np.where(rate.is_pilot, 1.0, rate.normalising_factor)[:, None]
     values = np.einsum("ksa,nka->nks", np.linalg.pinv(frame.channel), frame.received) / factors
     symbols = values.shape[0]
@@ -203,12 +227,11 @@ def _errors(frame: Any, rate: Rate, untracked: np.ndarray, short_guard: bool, ov
     errors = np.abs((values - points) * factors) ** 2
     sent = points * factors
     after = np.angle(np.einsum("nka,nka->n", np.einsum("kas,nks->nka", frame.channel, sent).conj(), frame.received))
-    sent[:, rate.is_pilot] = standard.pilots(rate, symbols)
+    sent[:, rate.is_pilot] = standard.pilots(rate, symbols, first=form.first_polarity)
     heard = np.einsum("nka,nka->nk", np.einsum("kas,nks->nka", frame.channel, sent).conj(), untracked)
     phases = np.stack((np.angle(heard.sum(axis=1)), after))
-    guard = SHORT_GUARD if short_guard else LONG_GUARD
-    times = (TRAINING_FIELDS[rate.streams - 1] * SYMBOL / 2 + guard + (TRANSFORM + guard) * np.arange(symbols)) * over
-    return errors, 1e6 * _drift(heard, rate.frequencies, times.astype(float), TRANSFORM * over), phases
+    times = (form.data - form.middle + form.guard + (TRANSFORM + form.guard) * np.arange(symbols)) * over
+    return errors, 1e6 * _drift(heard, rate.frequencies, times.astype(float), TRANSFORM * over), phases, values.astype(np.complex64)
 
 
 def _drift(heard: np.ndarray, numbers: np.ndarray, times: np.ndarray, length: int) -> float:
@@ -239,14 +262,16 @@ class Finding:
         The lowest and the highest value that pass; None where that isn't known.
     unit : str
     value : float
-    interval : tuple of float
-        At 95 %; equal ends where there is one frame.
+    interval : tuple of float, optional
+        At 95 %; None where what it was found from doesn't give one.
     frames : int
-        That it was found from.
+        That count.
     where : str
         Where the value was found.
     unsure : str
-        Why there is no verdict although there are frames enough; empty where nothing is in the way.
+        Why it doesn't pass although there are frames enough; empty where nothing is in the way.
+    lacking : str
+        Why there is no verdict whatever the interval; empty where nothing is in the way.
     is_for_show : bool
         Whether the clause has no limit for it, and it stands beside a test for what it tells.
     """
@@ -256,16 +281,17 @@ class Finding:
     allowed: Optional[Tuple[float, float]]
     unit: str
     value: float
-    interval: Tuple[float, float]
+    interval: Optional[Tuple[float, float]]
     frames: int
     where: str = ""
     unsure: str = ""
+    lacking: str = ""
     is_for_show: bool = False
 
     @property
     def verdict(self) -> Optional[str]:
         """``pass`` where the interval is within the limit, ``fail`` where it is outside, and None otherwise."""
-        if self.frames < self.limit.frames or self.allowed is None:
+        if self.frames < self.limit.frames or self.allowed is None or self.interval is None or self.lacking:
             return None
         low, high = self.interval
         if low > self.allowed[1] or high < self.allowed[0]:
@@ -278,8 +304,8 @@ class Finding:
         if self.verdict is not None:
             return self.verdict
         if self.frames < self.limit.frames:
-            return f"no verdict: {self.frames} of {self.limit.frames} frames"
-        return f"no verdict: {self.unsure or 'the interval has the limit in it'}"
+            return f"no verdict: {self.frames} of {self.limit.frames} frames" + (f"; {self.lacking}" if self.lacking else "")
+        return f"no verdict: {self.lacking or self.unsure or 'the interval has the limit in it'}"
 
     @property
     def bounds(self) -> str:
@@ -291,10 +317,14 @@ class Finding:
             return f"at most {high:g} {self.unit}"
         return f"at least {low:g} {self.unit}" if np.isinf(high) else f"{low:+g} to {high:+g} {self.unit}"
 
+    @property
+    def spread(self) -> str:
+        """The interval in words."""
+        return "one frame gives none" if self.interval is None else f"{self.interval[0]:.2f} to {self.interval[1]:.2f}"
+
     def __str__(self) -> str:
-        low, high = self.interval
         where = f" at {self.where}" if self.where else ""
-        interval = "one frame gives no interval" if self.frames < 2 else f"95 %: {low:.2f} to {high:.2f}"
+        interval = "one frame gives no interval" if self.interval is None else f"95 %: {self.spread}"
         frames = f"{self.frames} of {self.limit.frames} frames asked for" + ("" if self.limit.named else " (the clause names no number)")
         return (f"{self.limit.test}, {self.subject}, clause {self.limit.clause}: {self.value:.2f} {self.unit}{where} ({interval}), limit {self.bounds}; "
                 f"{frames}: {self.outcome}")
@@ -302,16 +332,17 @@ class Finding:
     def record(self) -> Dict[str, Any]:
         """The same as a record."""
         low, high = (None, None) if self.allowed is None else (None if np.isinf(end) else end for end in self.allowed)
+        ends = self.interval or (None, None)
         return {"test": self.limit.test, "clause": self.limit.clause, "edition": limits.EDITION, "subject": self.subject, "limit_low": low, "limit_high": high,
-                "unit": self.unit, "value": self.value, "low": self.interval[0], "high": self.interval[1], "where": self.where, "frames": self.frames,
+                "unit": self.unit, "value": self.value, "low": ends[0], "high": ends[1], "where": self.where, "frames": self.frames,
                 "frames_asked": self.limit.frames, "frames_named": self.limit.named, "verdict": self.verdict, "outcome": self.outcome}
 
 
-def interval_of(values: Sequence[float], more: float = 0.0) -> Tuple[float, float]:
-    """The interval of the mean of values at 95 %, by Student's distribution, and so much more on both sides."""
+def interval_of(values: Sequence[float], more: float = 0.0) -> Optional[Tuple[float, float]]:
+    """The interval of the mean of values at 95 %, by Student's distribution, and so much more on both sides; None of one value."""
     mean, count = float(np.mean(values)), len(values)
     if count < 2:
-        return mean - more, mean + more
+        return None
     from scipy.stats import t
 
     half = float(t.ppf(0.975, count - 1) * np.std(values, ddof=1) / np.sqrt(count)) + more
@@ -364,6 +395,14 @@ class MaskCurve:
         In dBr.
     segments : int
     antenna : int
+    worst : int
+        Where the level comes nearest to the mask, outside of the part where that is 0 dBr.
+    margin : float
+        The least distance of all antennas below the mask, in dB.
+    hidden : float, optional
+        The least offset from which on an antenna's own noise reaches the mask, in Hz; None where none does.
+    is_seen : bool
+        Whether it doesn't everywhere. If it does, the distance is that of the noise.
     top : float
         The density that is 0 dBr, in dB of full scale per Hz.
     """
@@ -374,60 +413,72 @@ class MaskCurve:
     noise: np.ndarray
     segments: int
     antenna: int
+    worst: int
+    margin: float
+    hidden: Optional[float]
+    is_seen: bool
     top: float
 
     @property
-    def judged(self) -> np.ndarray:
-        """Where the recorder's own noise lies low enough."""
-        return self.noise <= self.mask - UNHEARD
+    def interval(self) -> Tuple[float, float]:
+        """Of the distance at 95 %: two densities beside one another, each with the spread of a mean over all segments."""
+        from scipy.stats import f
 
-    @property
-    def worst(self) -> int:
-        """Where the level comes nearest to the mask, outside of the part where that is 0 dBr."""
-        return int(np.argmin(np.where(self.judged & (self.mask < 0), self.mask - self.level, np.inf)))
+        half = 10 * np.log10(float(f.ppf(0.975, 2 * self.segments, 2 * self.segments)))
+        return self.margin - half, self.margin + half
 
 
 def mask_curve(packets: Sequence[Measured], frequency: Optional[float], rate: float) -> MaskCurve:
-    """The spectrum of packets of one channel beside the mask."""
-    bandwidth = packets[0].rate.bandwidth
-    curves = []
-    count = packets[0].spectrum.powers.shape[1]
-    for antenna in range(packets[0].spectrum.powers.shape[0]):
-        offsets = np.fft.fftfreq(count, 1 / rate) - packets[0].middle - float(np.mean([packet.offset for packet in packets]))
-        order = np.argsort(offsets)
-        order = order[np.abs(np.fft.fftfreq(count, 1 / rate)[order]) <= SEEN * rate / 2]
-        density = _summed([packet.spectrum for packet in packets])[antenna]
-        silence = _summed([packet.silence for packet in packets])[antenna]
-        near = np.abs(offsets) <= bandwidth * 0.5e6
-        top = float(np.max(density[near & (np.abs(offsets) > CENTRE)]))
-        if not top > 0:
-            continue
-        mask = limits.mask_at(offsets, bandwidth, limits.band_of(frequency))
-        level, noise = (10 * np.log10(np.maximum(powers, 1e-30 * top) / top) for powers in (density, silence))
-        curves.append(MaskCurve(offsets[order], level[order], mask[order], noise[order], sum(packet.spectrum.segments for packet in packets), antenna,
-                                10 * np.log10(top / (rate * np.sum(window_of(count) ** 2)))))
-    return min(curves, key=lambda curve: float(curve.mask[curve.worst] - curve.level[curve.worst]))
+    """The spectrum of packets of one channel beside the mask.
+
+    The largest density, which is 0 dBr, and the one that comes nearest to the mask are each read from one half of the segments
+    at the place that the other half chooses: the largest of many noisy numbers would be too large.
+    """
+    spectrum = summed(packet.spectrum for packet in packets)
+    count = spectrum.powers.shape[-1]
+    places = np.fft.fftfreq(count, 1 / rate)
+    order = np.argsort(places)
+    order = order[np.abs(places[order]) <= rate / 2 - LOBE * rate / count]
+    offsets = places[order] - packets[0].middle - float(np.mean([packet.offset for packet in packets]))
+    mask = limits.mask_at(offsets, packets[0].rate.bandwidth, limits.band_of(frequency))
+    near = (np.abs(offsets) <= packets[0].rate.bandwidth * 0.5e6) & (np.abs(offsets) > CENTRE)
+    halves = spectrum.halves[..., order]
+    tops = _largest(np.where(near, halves, 0.0), (2,))
+    heard = np.flatnonzero(tops > DEAF * tops.max())
+    tops, halves = tops[heard, None], halves[:, heard]
+    noise = summed(packet.silence for packet in packets).density[heard][:, order] / tops
+    judged = noise <= 10 ** ((mask - UNHEARD) / 10)
+    hidden, asked = ~judged & (mask < 0), judged & (mask < 0)
+    beside = np.where(asked if asked.any() else mask < 0, halves / tops / 10 ** (mask / 10), 0.0)
+    antenna, worst = np.unravel_index(int(np.argmax(beside.mean(axis=0))), beside.shape[1:])
+    level, silence = (10 * np.log10(np.maximum(powers, 1e-30)) for powers in (halves.mean(axis=0)[antenna] / tops[antenna], noise[antenna]))
+    top = float(tops[antenna, 0]) / (rate * np.sum(window_of(count) ** 2))
+    return MaskCurve(offsets, level, mask, silence, int(spectrum.segments.sum()), int(heard[antenna]), int(worst),
+                     -10 * float(np.log10(max(float(_largest(beside, (1, 2))), 1e-30))),
+                     float(np.min(np.abs(offsets[hidden.any(axis=0)]))) if hidden.any() else None, bool(asked.any()), 10 * float(np.log10(top)))
 
 
-def _summed(spectra: Sequence[Spectrum]) -> np.ndarray:
-    """The mean over the segments of some spectra."""
-    return np.sum([spectrum.powers for spectrum in spectra], axis=0) / max(sum(spectrum.segments for spectrum in spectra), 1)
+def _largest(halves: np.ndarray, axes: Tuple[int, ...]) -> np.ndarray:
+    """The largest value over some axes of means over two halves of what was measured, each read where the other one is largest."""
+    kept = [axis for axis in range(1, halves.ndim) if axis not in axes]
+    flat = halves.transpose(0, *kept, *axes).reshape(2, *(halves.shape[axis] for axis in kept), -1)
+    chosen = flat.argmax(axis=-1)[::-1]
+    return np.take_along_axis(flat, chosen[..., None], axis=-1)[..., 0].mean(axis=0)
 
 
 def _mask(packets: Sequence[Measured], frequency: Optional[float], rate: float) -> Finding:
     curve = mask_curve(packets, frequency, rate)
-    worst = curve.worst
-    margin = float(curve.mask[worst] - curve.level[worst])
-    half = 1.96 * 10 / np.log(10) / np.sqrt(max(curve.segments, 1))
     reach, needed = float(np.min(np.abs(curve.offsets[[0, -1]]))), limits.reach_of(packets[0].rate.bandwidth)
-    unsure = ""
-    if not (curve.judged | (curve.mask == 0)).all():
-        hidden = float(np.min(np.abs(curve.offsets[~curve.judged & (curve.mask < 0)])))
-        unsure = f"from {hidden / 1e6:.1f} MHz on the recorder's own noise reaches the mask"
+    unsure = lacking = ""
+    if curve.hidden is not None:
+        unsure = f"from {curve.hidden / 1e6:.1f} MHz on the recorder's own noise reaches the mask"
+        lacking = "" if curve.is_seen else unsure
     if reach < needed:
         unsure = f"the rate shows nothing beyond {reach / 1e6:.1f} MHz, and the mask goes on to {needed / 1e6:g} MHz"
-    return Finding(limits.SPECTRAL_MASK, ", distance below it", (0.0, np.inf), "dB", margin, (margin - half, margin + half), len(packets),
-                   f"{curve.offsets[worst] / 1e6:+.2f} MHz of antenna {curve.antenna}", unsure)
+    if curve.segments < SEGMENTS:
+        lacking = f"{curve.segments} of {SEGMENTS} segments of {1e6 * NOISE_BANDWIDTH / RESOLUTION:.0f} microseconds"
+    return Finding(limits.SPECTRAL_MASK, ", distance below it", (0.0, np.inf), "dB", curve.margin, curve.interval, len(packets),
+                   f"{curve.offsets[curve.worst] / 1e6:+.2f} MHz of antenna {curve.antenna}", unsure, lacking)
 
 
 def deviations(packets: Sequence[Measured]) -> np.ndarray:
@@ -482,17 +533,22 @@ def _leakage(powers: Sequence[np.ndarray], subject: str, most: float) -> Finding
     return Finding(limits.CENTRE_LEAKAGE, subject, (-np.inf, most), "dB", float(np.mean(values)), interval_of(values), len(values), f"antenna {antenna}")
 
 
+def long_enough(packets: Sequence[Measured]) -> List[Measured]:
+    """The packets that have as many symbols as the constellation error asks for."""
+    return [packet for packet in packets if packet.symbols >= limits.SYMBOLS_ASKED]
+
+
 def _constellation(packets: Sequence[Measured], rate: Rate) -> List[Finding]:
     """Over data, pilots and all subcarriers; the verdict is on all, over which formula 20-89 sums."""
-    long = [packet for packet in packets if packet.symbols >= limits.SYMBOLS_ASKED]
-    counted = long or list(packets)
+    long = long_enough(packets)
+    short = len(packets) - len(long)
+    lacking = f"{short} more {'has' if short == 1 else 'have'} fewer than {limits.SYMBOLS_ASKED} symbols" if short else ""
     made = []
     for which in ("all", "data", "pilot"):
-        values = [packet.error(which) for packet in counted]
-        low, high = interval_of(values)
-        value = float(decibels(float(np.mean(values))))
-        interval = float(decibels(max(low, 1e-12))), float(decibels(high))
-        unsure = "" if long else f"no frame has {limits.SYMBOLS_ASKED} symbols"
-        finding = Finding(limits.CONSTELLATION, f"{rate}, {which} subcarriers", (-np.inf, float(rate.error_limit)), "dB", value, interval, len(long), "", unsure)
+        values = [packet.error(which) for packet in long or packets]
+        ends = interval_of(values)
+        interval = None if ends is None else (float(decibels(max(ends[0], 1e-12))), float(decibels(ends[1])))
+        finding = Finding(limits.CONSTELLATION, f"{rate}, {which} subcarriers", (-np.inf, float(rate.error_limit)), "dB", float(decibels(float(np.mean(values)))),
+                          interval, len(long), lacking="" if len(long) >= limits.CONSTELLATION.frames else lacking)
         made.append(finding if which == "all" else replace(finding, allowed=None, unsure="the limit is of all subcarriers", is_for_show=True))
     return made

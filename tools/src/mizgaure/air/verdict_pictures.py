@@ -1,4 +1,4 @@
-"""The transmitter tests drawn: the mask over the spectrum, flatness, errors over subcarriers and over symbols, the channel, and phases.
+"""The transmitter tests drawn: the mask over the spectrum, flatness, errors over subcarriers and over symbols, constellations, the channel, and phases.
 
 Legends stand below their panels, where they hide nothing.
 """
@@ -11,8 +11,9 @@ import numpy as np
 
 from ..measures import decibels
 from ..pictures import BLUE, INK, ORANGE, PALE, STREAM_STYLES, STYLE, matplotlib_of
+from ..rates import Rate
 from . import limits
-from .transmitter import Measured, deviations, mask_curve
+from .transmitter import Measured, deviations, long_enough, mask_curve
 
 if TYPE_CHECKING:
     from matplotlib.figure import Figure
@@ -20,6 +21,7 @@ if TYPE_CHECKING:
 SIZE = (4.6, 4.0)
 SMALL = {**STYLE, "font.size": 9, "axes.titlesize": 10, "axes.labelsize": 9}
 DASHED = (0, (5, 2))
+MOST_POINTS = 20000  # of a stream that are drawn
 
 
 def drawn(packets: Sequence[Measured], frequency: Optional[float], rate: float) -> Iterator[Tuple[str, "Figure"]]:
@@ -42,6 +44,12 @@ def drawn(packets: Sequence[Measured], frequency: Optional[float], rate: float) 
             figure = Figure(figsize=SIZE, layout="constrained")
             draw(figure.subplots(), packets, frequency, rate)
             yield what, figure
+        for each in sorted({packet.rate for packet in packets}, key=lambda found: found.mcs):
+            alike = [packet for packet in packets if packet.rate == each]
+            for stream in range(each.streams):
+                figure = Figure(figsize=SIZE, layout="constrained")
+                _constellation(figure.subplots(), alike, each, stream)
+                yield f"the constellation of MCS {each.mcs}, stream {stream + 1}", figure
 
 
 def _mask(panel, packets: Sequence[Measured], frequency: Optional[float], rate: float) -> None:
@@ -103,6 +111,21 @@ def _over_symbols(panel, packets: Sequence[Measured], frequency: Optional[float]
     panel.plot(np.arange(longest.symbols), values, color=BLUE, marker="o", markersize=2.5, linewidth=0.8, label=f"{len(packets)} frames")
     panel.set(xlabel="symbol", ylabel="r.m.s. error of all frames (dB)", title="constellation error over symbols")
     _limited(panel, packets)
+    _legend(panel)
+
+
+def _constellation(panel, packets: Sequence[Measured], rate: Rate, stream: int) -> None:
+    """The points of data subcarriers, with the error that the test has: the mean over frames of that over all subcarriers."""
+    received = np.concatenate([packet.values[:, ~rate.is_pilot, stream].reshape(-1) for packet in packets if packet.values is not None])
+    shown, reach = received[:MOST_POINTS], rate.highest_level + 1.6
+    counted = long_enough(packets) or packets
+    of_stream, of_all = (float(decibels(np.mean([packet.error("all", which) for packet in counted]))) for which in (stream, None))
+    panel.scatter(shown.real, shown.imag, s=float(np.clip(9000 / max(1, shown.size), 1.5, 16)), color=BLUE, alpha=0.5, linewidths=0, rasterized=True,
+                  label=f"{shown.size} of {received.size} points")
+    panel.scatter(rate.points.real, rate.points.imag, s=50, marker="+", color=INK, linewidths=1.2, zorder=3, label="the constellation")
+    levels = np.arange(-rate.highest_level, rate.highest_level + 1, 2)
+    panel.set(xlim=(-reach, reach), ylim=(-reach, reach), aspect="equal", xticks=levels, yticks=levels, xlabel="I (levels)", ylabel="Q (levels)",
+              title=f"stream {stream + 1}: error {of_stream:.1f} dB" + (f", all streams {of_all:.1f} dB" if rate.streams > 1 else ""))
     _legend(panel)
 
 

@@ -70,12 +70,11 @@ def _write(given: argparse.Namespace, bandwidth: int, mcs: Tuple[int, ...], pack
         raise InputError(f"{given.folder} can't be made: {error.strerror}") from error
     radio = Radio(given.radio, progress=False)
     radio.need("tx")
-    bar = Progress(len(challenges), "challenge", unit=" recordings")
+    bar = Progress(packets * len(challenges), "challenge", unit=" packets")
     try:
         for each in challenges:
-            each.write(given.folder, radio, seed, given.force)
+            each.write(given.folder, radio, seed, given.force, bar.add)
             bar.say(f"{os.path.join(given.folder, each.name)}: {packets} packets of {length} octets at {each.level:g} dBm, full scale {full_scale:g} dBm")
-            bar.add(1)
     finally:
         bar.close()
     write_plan(given.folder, challenges, given.force)

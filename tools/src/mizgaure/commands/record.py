@@ -154,12 +154,7 @@ class Heard:
 
     def remark(self) -> None:
         """Say what isn't right in the recording, now that it was read."""
-        recording = self.source
-        if recording.rest:
-            recording.remarks.append(f"{recording.name}: {octets(recording.rest)} at its end are no whole sample, and were left out")
-        if recording.ever_not_finite:
-            recording.remarks.append(f"{recording.name}: parts of samples aren't finite or are above 1e15, and were taken as 0")
-        for remark in recording.remarks:
+        for remark in remarks_of(self.source):
             print(f"mizgaure: {remark}", file=sys.stderr)
 
     def nothing(self) -> str:
@@ -167,6 +162,16 @@ class Heard:
         recording, look = self.source, self._look or Look(self.source, self.part)
         low, high = self.part.instants(recording)
         return f"no packet was found in {high - low} samples, {recording.seconds(high - low):.6f} s: {look.cause()}"
+
+
+def remarks_of(recording: Recording) -> List[str]:
+    """What isn't right in a recording that was read."""
+    made = list(recording.remarks)
+    if recording.rest:
+        made.append(f"{recording.name}: {octets(recording.rest)} at its end are no whole sample, and were left out")
+    if recording.ever_not_finite:
+        made.append(f"{recording.name}: parts of samples aren't finite or are above 1e15, and were taken as 0")
+    return made
 
 
 def text_of(*paths: Optional[str]) -> TextIO:

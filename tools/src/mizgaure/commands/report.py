@@ -4,6 +4,7 @@ from __future__ import annotations
 
 import argparse
 import os
+from collections import Counter
 from typing import List, Tuple
 
 from ..air.recording import base_name, open_recording
@@ -14,10 +15,12 @@ from ..files import naming, refuse_overwriting, writing
 from ..program import Progress, Radio
 from ..sweep import read_sweep
 from .base import Command, not_negative, positive, refuse_idle, whole
-from .verdict import measured
+from .record import hertz, remarks_of
+from .verdict import measured, unmeasured
 
 
 PICTURED = 2  # frames of a capture that have pictures where nothing is said
+OF_RECORDINGS = ("frequency", "reference_ppm", "shift")
 
 
 def words(command: argparse.ArgumentParser) -> None:
@@ -27,8 +30,9 @@ def words(command: argparse.ArgumentParser) -> None:
     command.add_argument("--sweep", metavar="FILE", action="append", default=[], help="what mizgaure sweep kept; may come again")
     command.add_argument("--frequency", metavar="HZ", type=positive, help="of the middle of the recorded band (default: as recordings say)")
     command.add_argument("--reference-ppm", metavar="PPM", type=not_negative, help="by how much the recorder's own clock may be wrong")
+    command.add_argument("--shift", metavar="HZ", type=hertz, help="where the packets' middle is, from the recordings' middle")
     command.add_argument("--pictures", metavar="N", type=whole, help=f"draw the first N frames of each capture (default {PICTURED})")
-    command.add_argument("--title", metavar="TEXT", default="Captures, measured", help="the page's title")
+    command.add_argument("--title", metavar="TEXT", help="the page's title (default: what it has)")
 
 
 def run(given: argparse.Namespace) -> None:
@@ -41,24 +45,28 @@ def run(given: argparse.Namespace) -> None:
     recordings, captures = _sorted(given.captures)
     if given.theirs and len(given.theirs) != len(captures):
         raise InputError(f"--theirs comes once for each capture: captures {len(captures)}, --theirs {len(given.theirs)}")
-    if not recordings and (given.frequency is not None or given.reference_ppm is not None):
-        raise InputError("--frequency and --reference-ppm are said of recordings, and there is none")
+    for name in OF_RECORDINGS:
+        refuse_idle(given, name, not recordings, "it is said of recordings, and there is none")
     refuse_idle(given, "pictures", not captures, "the frames of captures are drawn, and there is none")
+    refuse_idle(given, "radio", not captures, "recordings and sweeps are looked at without it")
     pictured = PICTURED if given.pictures is None else given.pictures
-    radio = Radio(given.radio, progress=False)
+    radio = Radio(given.radio, progress=False) if captures else None
     bar = Progress(len(given.captures) + len(given.sweep), "report", unit=" files")
     examined, heard, sweeps = [], [], []
     try:
         for path, lines in zip(captures, given.theirs or [None] * len(captures)):
+            assert radio is not None
             examined.append(examine(path, radio, lines, pictured))
             bar.add(1)
         for path in recordings:
             with open_recording(path) as recording:
-                packets = list(measured(fitted(recording), shown=False))
+                left_out: Counter = Counter()
+                packets = list(measured(fitted(recording, given.shift or 0.0), shown=False, left_out=left_out))
                 if not packets:
-                    raise InputError(f"{path}: no packet was found in it")
+                    raise InputError(f"{path}: {unmeasured(left_out) or 'no packet was found in it'}")
                 heard.append(examine_recording(recording, path, packets, given.frequency or recording.frequency, given.reference_ppm,
-                                               recorded(base_name(path) + META)))
+                                               [*recorded(base_name(path) + META), *(("remark", remark) for remark in remarks_of(recording))],
+                                               unmeasured(left_out)))
             bar.add(1)
         for path in given.sweep:
             with naming(path):
@@ -67,7 +75,8 @@ def run(given: argparse.Namespace) -> None:
     finally:
         bar.close()
     inputs = [*captures, *(base_name(path) + ending for path in recordings for ending in (META, DATA)), *(given.theirs or []), *given.sweep]
-    made = page(examined, given.title, facts(given.command_line, radio.path, inputs), heard, sweeps)
+    title = given.title or " and ".join(kind for kind, there in (("Captures", captures), ("recordings", recordings)) if there).capitalize() + ", measured"
+    made = page(examined, title, facts(given.command_line, None if radio is None else radio.path, inputs), heard, sweeps)
     with writing(given.output, given.force) as stream:
         stream.write(made.encode())
 
