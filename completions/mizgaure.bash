@@ -30,8 +30,9 @@ _mizgaure() {
       picture:picture) words='constellation evm residual distances sweep spectrum preamble tracking' ;;
       picture:--datatype) words='cf32_be cf32_le cf64_be cf64_le ci16_be ci16_le ci32_be ci32_le ci8 cu8' ;;
       picture:--radio | picture:--frame | picture:--answers | picture:--sample-rate | picture:--channels | picture:--variable) ;;
-      report:--radio | report:-o | report:--output | report:--theirs | report:--sweep | report:--frequency | report:--reference-ppm | report:--pictures | report:--title) ;;
+      report:--radio | report:-o | report:--output | report:--theirs | report:--sweep | report:--frequency | report:--reference-ppm | report:--shift | report:--pictures | report:--title) ;;
       waveform:--datatype) words='cf32_le ci16_le' ;;
+      waveform:--bits) words='2 3 4 5 6 7 8 9 10 11 12 13 14 15 16' ;;
       waveform:--guard) words='long short' ;;
       waveform:--stbc) words='0 1 2' ;;
       waveform:--rate) words='20 40 60 80 100 120 200' ;;
@@ -63,9 +64,9 @@ _mizgaure() {
             sweep) words='--radio --force --bandwidth --mcs --length --antennas --decay --channel --profile --estimate --seed --snr --frames --errors --chunk --detector --soft --processes --scheduler --part --output --resume --picture --csv --json --help' ;;
             merge) words='--force --output --picture --csv --json --help' ;;
             picture) words='--radio --force --frame --answers --datatype --sample-rate --channels --variable --help' ;;
-            report) words='--radio --force --output --theirs --sweep --frequency --reference-ppm --pictures --title --help' ;;
+            report) words='--radio --force --output --theirs --sweep --frequency --reference-ppm --shift --pictures --title --help' ;;
             zero-forcing) words='--help' ;;
-            waveform) words='--force --output --datatype --raw --guard --aggregated --stbc --greenfield --antennas --spread --offset --frequency --snr --gap --rate --dc --dc-drift --neighbour --nonadjacent --clock --leakage --filter --gains --error --lost --seed --help' ;;
+            waveform) words='--force --output --datatype --bits --raw --guard --aggregated --stbc --greenfield --antennas --spread --offset --frequency --snr --gap --rate --dc --dc-drift --neighbour --nonadjacent --clock --leakage --filter --gains --error --lost --seed --help' ;;
             record) words='--force --datatype --sample-rate --channels --variable --shift --channel --processes --from --to --packets --output --gain --legacy --annotate --csv --json --help' ;;
             receive) words='--radio --force --datatype --sample-rate --channels --variable --shift --channel --processes --from --to --packets --output --soft --full-scale --sent --truth --csv --json --help' ;;
             verdict) words='--force --datatype --sample-rate --channels --variable --shift --channel --processes --frequency --reference-ppm --complete --csv --json --help' ;;

@@ -208,6 +208,7 @@ case $command in
       '--sweep[what mizgaure sweep kept; may come again]:file:_files' \
       '--frequency[of the middle of the recorded band]:hz:' \
       '--reference-ppm[by how much the recorder'\''s own clock may be wrong]:ppm:' \
+      '--shift[where the packets'\'' middle is, from the recordings'\'' middle]:hz:' \
       '--pictures[draw the first N frames of each capture]:n:' \
       '--title[the page'\''s title]:text:' \
       '--help[say more]' \
@@ -221,6 +222,7 @@ case $command in
       '--force[overwrite a file that is there already]' \
       {-o,--output}'[the name of a SigMF recording (a .sigmf-meta and a .sigmf-data), or with --raw of a file of samples]:recording:_files' \
       '--datatype[of the samples]:datatype:(cf32_le ci16_le)' \
+      '--bits[round the parts of samples to so many bits, 2 to 16, as a converter does]:n:(2 3 4 5 6 7 8 9 10 11 12 13 14 15 16)' \
       '--raw[write the samples alone]' \
       '--guard[the guard interval of data symbols]:guard:(long short)' \
       '--aggregated[say in HT-SIG that the octets are an A-MPDU]' \

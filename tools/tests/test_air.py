@@ -445,6 +445,31 @@ def test_raw_and_whole_numbers(here, sent, tmp_path):
                                                                      zip((2, 15, 7), map(len, sent))]
 
 
+@pytest.mark.parametrize("bits, datatype", [(6, "cf32_le"), (8, "ci16_le"), (12, "ci16_le")])
+def test_the_bits_of_a_converter(here, sent, tmp_path, bits, datatype):
+    """Parts are whole steps of 2 / 2^N, off by at most half a step, with the power of steps that are taken at random, 1/12 of their square."""
+    done = here("waveform", "sent.htsy", "-o", "few.raw", "--raw", "--datatype", datatype, "--bits", bits, "--snr", 20)
+    assert done.returncode == 0 and b" of %d bits" % bits in done.stderr and b"clipped" not in done.stderr
+    assert here("waveform", "sent.htsy", "-o", "all.raw", "--raw", "--snr", 20).returncode == 0
+    step = 2.0 ** (1 - bits)
+    few = np.fromfile(tmp_path / "few.raw", "<f4" if datatype == "cf32_le" else "<i2") / (1 if datatype == "cf32_le" else 32768)
+    error = few - np.fromfile(tmp_path / "all.raw", "<f4")
+    busy = np.abs(np.fromfile(tmp_path / "all.raw", "<f4")) > step
+    assert (few / step == np.rint(few / step)).all() and np.abs(error).max() <= step / 2 + 1e-6
+    assert np.mean(error[busy] ** 2) == pytest.approx(step**2 / 12, rel=0.1)
+
+
+def test_a_converter_with_few_bits_is_received(here, command, sent, tmp_path):
+    """At 8 bits and a tenth of full scale the steps are 30 dB below the packets: 12 * (128 * 0.1)^2 / 2; and what has no such bits is refused."""
+    assert here("waveform", "sent.htsy", "-o", "air", "--bits", 8, "--snr", "none", "--offset", 12).returncode == 0
+    lines = command("receive", "air").stdout.decode().splitlines()
+    assert lines[-1] == "3 packets: 3 received, 3 of 3 MPDUs with a good FCS"
+    assert [float(re.search(r"noise (-[\d.]+) dB", line)[1]) for line in lines[:3]] == pytest.approx([-30.5] * 3, abs=2.5)
+    for bits in ("1", "17", "x"):
+        done = here("waveform", "sent.htsy", "-o", "no", "--bits", bits)
+        assert done.returncode == 2 and b"--bits" in done.stderr and not (tmp_path / "no.sigmf-meta").exists()
+
+
 def bad_recordings(folder):
     """Names of recordings, what is in their two files, and what is said."""
     frame = random_symbols(Rate(20, 3), 40, np.random.default_rng(1))

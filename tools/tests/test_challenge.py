@@ -5,6 +5,7 @@ import json
 import numpy as np
 import pytest
 from air import samples_in
+from conftest import TOP
 
 from mizgaure import read_httx
 from mizgaure.air.challenge import Challenge, Outcome
@@ -119,3 +120,32 @@ def test_the_levels_of_the_clause():
     assert [wide - narrow for narrow, wide in zip(SENSITIVITY_LEVELS[20], SENSITIVITY_LEVELS[40])] == [3] * 8
     assert Challenge("adjacent", 20, 15, 1, 30, 0.0).level == -61 and Challenge("sensitivity", 20, 15, 1, 30, 0.0).level == -64
     assert Outcome(Challenge("sensitivity", 20, 0, 100, 30, 0.0), 95).verdict is None
+
+
+def test_the_numbers_of_the_pages():
+    """docs/TRANSMITTERS.md has the levels and rejections of the table, and docs/RECORDINGS.md the ratio that a subcarrier has at each level.
+
+    Of 20 MHz with noise of -91 dBm a packet fills 56 of 64 subcarriers, and of 40 MHz with 3 dB more 114 of 128.
+    """
+    page = (TOP / "docs" / "TRANSMITTERS.md").read_text()
+    for numbers, words in ((SENSITIVITY_LEVELS[20], "4,096 octets wrong at {}, at 40 MHz 3 dB higher"), (REJECTION, "beside a neighbour {} dB stronger"),
+                           (REJECTION_FAR, "two channels away, {} dB stronger")):
+        said = ", ".join(map(str, numbers))
+        assert words.format(said + " dBm" if "octets" in words else said) in page
+    rows = [row.split(" | ") for row in (TOP / "docs" / "RECORDINGS.md").read_text().splitlines() if row.startswith(("| 20 MHz |", "| 40 MHz |"))]
+    told = {(row[0].strip("| "), row[1]): float(row[2]) for row in rows if len(row) == 8}
+    names = ["BPSK 1/2", "QPSK 1/2", "QPSK 3/4", "16-QAM 1/2", "16-QAM 3/4", "64-QAM 2/3", "64-QAM 3/4", "64-QAM 5/6"]
+    ratios = {("20 MHz", name): level + 91 + 10 * np.log10(64 / 56) for name, level in zip(names, SENSITIVITY_LEVELS[20])}
+    ratios["40 MHz", names[-1]] = SENSITIVITY_LEVELS[40][-1] + 88 + 10 * np.log10(128 / 114)
+    assert told == pytest.approx(ratios, abs=0.051)
+
+
+@pytest.mark.parametrize("bandwidth", [20, 40])
+@pytest.mark.parametrize("test, above", [("sensitivity", None), ("adjacent", REJECTION), ("nonadjacent", REJECTION_FAR)])
+def test_each_mcs_has_its_level_and_neighbour(bandwidth, test, above):
+    """At 1 to 4 streams as at one: 4,096 octets, the level of the clause, 3 dB more beside a neighbour."""
+    for mcs in range(32):
+        made = Challenge(test, bandwidth, mcs, 100, 4096, -20.0)
+        assert made.level == SENSITIVITY_LEVELS[bandwidth][mcs % 8] + (0 if above is None else 3)
+        assert made.neighbour is None if above is None else made.neighbour == above[mcs % 8]
+        assert made.limit.clause == {"sensitivity": "20.3.21.1", "adjacent": "20.3.21.2", "nonadjacent": "20.3.21.3"}[test]

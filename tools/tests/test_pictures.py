@@ -177,7 +177,8 @@ def test_the_data_behind_pictures_of_a_frame():
     jobs = zero_forcing(frame)
     data = ~frame.rate.is_pilot
     numbers = frame.rate.frequencies[data]
-    for draw, cells in ((pictures.evm_over_subcarriers, decibels(evm(frame).cells)), (pictures.residual_over_subcarriers, 100 * residual_ratio(frame, jobs).cells)):
+    for draw, cells in ((pictures.evm_over_subcarriers, decibels(evm(frame).cells)),
+                        (pictures.residual_over_subcarriers, 100 * residual_ratio(frame, jobs).cells)):
         curves = [line for line in draw(frame, jobs).axes[0].lines if len(line.get_xdata()) > 2]
         for stream in range(2):
             halves = [(line.get_xdata(), line.get_ydata()) for line in curves if line.get_color() == pictures.STREAM_STYLES[stream][0]]
@@ -186,9 +187,39 @@ def test_the_data_behind_pictures_of_a_frame():
             assert np.array_equal(places[seen], numbers) and values[seen] == pytest.approx(cells[data, stream])
     (panel,) = pictures.distance_histogram(frame, jobs).axes
     pilot = frame.rate.is_pilot[jobs.carrier]
-    steps = {patch.get_label().partition(",")[0]: patch.get_xy()[:, 1] for patch in panel.patches if patch.get_label().endswith(f"{jobs.distance[~pilot].mean():.4g}")}
-    shares = steps["data subcarriers"]
-    assert shares.max() == pytest.approx(100 / np.count_nonzero(~pilot) * np.histogram(jobs.distance[~pilot], np.linspace(0, np.quantile(jobs.distance, 0.995), 41))[0].max())
+    (shares,) = (patch.get_xy()[:, 1] for patch in panel.patches if patch.get_label().startswith("data subcarriers"))
+    counts, _ = np.histogram(jobs.distance[~pilot], np.linspace(0, np.quantile(jobs.distance, 0.995), 41))
+    assert shares.max() == pytest.approx(100 / np.count_nonzero(~pilot) * counts.max())
+
+
+def test_the_data_behind_pictures_of_a_report():
+    """The panels of a capture's frame: points where they were received, errors with the rate's limit, and distances in percent of their jobs."""
+    from matplotlib.figure import Figure
+
+    from mizgaure import report
+
+    frame = random_frame(Rate(20, 9), 40, seed=1)
+    jobs, data = zero_forcing(frame), ~frame.rate.is_pilot
+    for stream in range(2):
+        panel = Figure().subplots()
+        pictures.constellation_panel(panel, frame, jobs, stream)
+        values = pictures.rotated_points(frame, jobs)[data[jobs.carrier]][:, stream]
+        reach = max(panel.get_xlim())
+        inside = values[(np.abs(values.real) <= reach) & (np.abs(values.imag) <= reach)]
+        assert np.asarray(panel.collections[0].get_offsets()) == pytest.approx(np.stack((inside.real, inside.imag), axis=-1))
+        assert (panel.get_xlabel(), panel.get_ylabel()) == ("I (levels)", "Q (levels)")
+    panel, found = Figure().subplots(), evm(frame)
+    report._magnitude_panel(panel, frame, found)
+    halves = [line for line in panel.lines if line.get_color() == pictures.STREAM_STYLES[1][0] and len(line.get_xdata()) > 2]
+    values = np.concatenate([line.get_ydata() for line in halves])
+    assert values[np.isfinite(values)] == pytest.approx(decibels(found.cells)[data, 1]) and panel.get_ylabel() == "error vector magnitude (dB)"
+    assert any(set(line.get_ydata()) == {frame.rate.error_limit} and line.get_label() == f"limit {frame.rate.error_limit} dB" for line in panel.lines)
+    panel = Figure().subplots()
+    report._distance_panel(panel, frame, jobs)
+    of_data = jobs.distance[data[jobs.carrier]]
+    counts, _ = np.histogram(of_data, np.linspace(0, np.quantile(jobs.distance, 0.995), 41))
+    (steps,) = (patch.get_xy()[:, 1] for patch in panel.patches if patch.get_label() == f"data, {of_data.size} jobs")
+    assert steps.max() == pytest.approx(100 * counts.max() / of_data.size) and panel.get_xlabel() and panel.get_ylabel() == "share of the jobs (% a bin)"
 
 
 def verdict_packets(count=4):
@@ -261,7 +292,7 @@ def test_delays_and_phases_of_verdicts():
 
 @pytest.mark.parametrize("greenfield", [False, True])
 def test_the_data_behind_pictures_of_a_recording(greenfield, tmp_path):
-    """The preamble's correlations are large where its fields repeat, and nowhere else, and points stand where they were sent once phase and timing are tracked."""
+    """The preamble's correlations are large where its fields repeat, and nowhere else, and points stand where they were sent once they are tracked."""
     recording = of_scene(Scene(greenfield=greenfield, offset=5.0, clock=-20.0), Rate(20, 3), 1, 1, 1500)
     figure = air_pictures.preamble(recording, 0, "air")
     amplitude, correlations = figure.axes

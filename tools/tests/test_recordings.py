@@ -446,6 +446,19 @@ def test_any_rate(rate):
             assert found[0].offset == pytest.approx(51800, abs=600)
 
 
+@pytest.mark.parametrize("rate, shift", [(25e6, 0.0), (50e6, 1e5), (20e6, 1e5)])
+def test_samples_that_are_not_finite_at_any_rate(rate, shift):
+    """The packet that they hit is named, and the other one is received."""
+    octets, _ = at_rate(rate, 20, snr=30.0)
+    samples = air.samples_in(octets, 1).copy()
+    with fitted(air.recording_of(octets, Layout("cf32_le", rate)), shift) as recording:
+        _, second = packets_in(recording)
+        samples[0, recording.source_sample(second.sample) + round(50e-6 * rate)] = np.inf + 1j
+    with fitted(air.recording_of(air.octets_in(samples), Layout("cf32_le", rate)), shift) as recording:
+        assert [each.left_out for each in packets_in(recording)] == [None, "samples that aren't finite"]
+        assert recording.ever_not_finite
+
+
 def test_a_resampled_sample_is_the_same_in_every_piece():
     random = np.random.default_rng(1)
     octets = air.octets_in(random.standard_normal((2, 40000)) + 1j * random.standard_normal((2, 40000)))

@@ -4,6 +4,7 @@ import hashlib
 import html.parser
 import json
 import re
+import tarfile
 
 import numpy as np
 import pytest
@@ -241,6 +242,7 @@ def test_a_report_of_recordings_alone(here, tmp_path, radio):
     page = Page()
     page.feed((tmp_path / "it.html").read_text())
     page.close()
+    assert '<span class="open">no verdict: 3 of 20 frames</span>' in (tmp_path / "it.html").read_text()
     assert "Recordings, measured" in page.text and "the program takes no part in it" in page.text and "tested and not proved" in page.text
     assert "radio found" not in page.text and "SHA-256 of the program" not in page.text and radio.path not in page.text
     assert "3 measured; 3 packets aren't measured: 3 with STBC" in page.text and "3 octets at its end are no whole sample" in page.text
@@ -256,9 +258,20 @@ def test_a_report_of_recordings_alone(here, tmp_path, radio):
     for name in ("--frequency", "--shift", "--reference-ppm"):
         refused = here("report", TOP / "examples" / "z.htcp", "-o", "other.html", name, 1)
         assert refused.stderr.decode() == f"mizgaure: {name} does nothing here: it is said of recordings, and there is none\n"
+    with tarfile.open("arch.sigmf", "w") as archive:
+        for name in ("air.sigmf-meta", "air.sigmf-data"):
+            archive.add(name, f"air/{name}")
+    assert here("report", "arch.sigmf", "-o", "arch.html").returncode == 0
+    assert hashlib.sha256((tmp_path / "arch.sigmf").read_bytes()).hexdigest() in (tmp_path / "arch.html").read_text()
+    (tmp_path / "air.sigmf-data").rename(tmp_path / "samples")
+    meta = json.loads((tmp_path / "air.sigmf-meta").read_text())
+    meta["global"]["core:dataset"] = "samples"
+    (tmp_path / "air.sigmf-meta").write_text(json.dumps(meta))
     assert here("report", "air", TOP / "examples" / "z.htcp", "-o", "both.html", "--pictures", 0).returncode == 0
     both = (tmp_path / "both.html").read_text()
     assert "Captures and recordings, measured" in both and "radio found" in both and "takes no part in it" in both and radio.path in both
+    for name in ("samples", "air.sigmf-meta"):
+        assert f"<dt>SHA-256 of {name}</dt><dd><code>{hashlib.sha256((tmp_path / name).read_bytes()).hexdigest()}" in both
 
 
 def random_points(rate, length, seed):

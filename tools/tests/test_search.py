@@ -1,23 +1,28 @@
 """Where packets are found: beside levels and neighbours, in noise, in both halves, in pieces, and when one of them goes wrong."""
 
+import os
+import runpy
 import subprocess
 import sys
+from dataclasses import replace
 
 import air
 import numpy as np
 import pytest
 from conftest import TOP
 
-from mizgaure import Rate, capture, cli, write_htsy
-from mizgaure.air import pieces, receive, synchronise, track
-from mizgaure.air.channels import LOWER, UPPER, response
+from mizgaure import Rate, capture, cli, measures, write_htsy
+from mizgaure.air import pieces, receive, synchronise, track, waveform
+from mizgaure.air.channels import LOWER, UPPER, Channel, response
+from mizgaure.air.form import Form
 from mizgaure.air.pieces import BLOCK, FRONT, Piece, level_of, pieces_of, powers_of, step_of
 from mizgaure.air.receive import MISTAKE, Packet
 from mizgaure.air.record import line_of, packets_in
 from mizgaure.air.recording import Layout
 from mizgaure.air.search import COLLISION, apart, packets_of
-from mizgaure.air.signal import HtSignal
+from mizgaure.air.signal import HtSignal, LegacySignal
 from mizgaure.air.simulate import LEVEL, Scene
+from mizgaure.air.standard import signal_octets
 from mizgaure.air.track import Step
 from mizgaure.air.waveform import Clock, packet
 from mizgaure.distances import zero_forcing
@@ -185,7 +190,7 @@ def test_both_halves_are_channels(late, level):
 # noise
 
 # The ratios on a subcarrier at which one packet of 1,000 octets at MCS 0 in ten is wrong.
-TENTH = {1: 3.0, 2: 0.0, 4: -2.6, 8: -5.3}
+TENTH = {1: 3.0, 2: 0.0, 4: -2.5, 8: -5.5}
 
 
 @pytest.mark.parametrize("antennas", TENTH)
@@ -215,10 +220,23 @@ def test_the_search_counts_chance():
     for antennas, powers in ((1, (1.0,)), (3, (1.0, 30.0, 0.01))):
         noise = random.standard_normal((antennas, 1 << 20, 2)) @ (1, 1j) * np.sqrt(powers)[:, None]
         piece = Piece(noise.astype(np.complex64), 0, 0, 1 << 20, 1, True, np.zeros(0, np.int64))
-        _, power = synchronise.correlation_of(synchronise.Channel(piece), 0, 1 << 20).beside_chance()
+        _, power = synchronise.correlations_of(piece, (0,), 0, 1 << 20)[0].beside_chance()
         assert np.mean(power) == pytest.approx(1, rel=0.05)
         for x in (1, 3, 5):
             assert np.mean(power > x) == pytest.approx(np.exp(-x), rel=0.25)
+
+
+def test_tiles_are_what_is_cut_out():
+    """At 40 million samples a second a channel is correlated in tiles, and is read there where a packet may begin: the samples are the same."""
+    random = np.random.default_rng(3)
+    noise = (random.standard_normal((3, 9000, 2)) @ (1, 1j)).astype(np.complex64)
+    piece = Piece(noise, 1000, 1000, 10000, 2, True, np.zeros(0, np.int64))
+    found = synchronise.correlations_of(piece, (LOWER, 0, UPPER), 480, 5200)
+    for middle, correlation in found.items():
+        blocks = Channel(piece, (middle,)).read(480, 16 * 282).reshape(3, 282, 16).astype(complex)
+        assert correlation.products.shape == (3, 281) and correlation.begin == 30
+        assert np.allclose(correlation.energies, np.sum(np.abs(blocks) ** 2, axis=2), rtol=1e-3, atol=1e-2)
+        assert np.allclose(correlation.products, np.sum(blocks[:, 1:] * blocks[:, :-1].conj(), axis=2), rtol=1e-3, atol=1e-2)
 
 
 def test_no_packet_is_found_in_noise():
@@ -300,17 +318,40 @@ def test_the_reserved_bit_of_ht_sig(reserved):
     assert found.remarks == ("" if reserved else "HT-SIG's reserved bit is 0") and abs(found.offset) < 600
 
 
+@pytest.mark.parametrize("reserved", [True, False])
+def test_the_reserved_bit_costs_no_error(reserved):
+    """At a noise of 35.6 dB on a subcarrier the error vector magnitude is 1.66 % and what the channel's estimate adds, with either bit."""
+    (frame,) = symbols_of((3,), 300, 1)
+    front, data = waveform.pieces_of(frame)
+    signal = HtSignal(3, False, 300, reserved=reserved)
+    values, _ = waveform.preamble(Form(frame.rate), LegacySignal(6, signal_octets(Form(frame.rate).duration(300))), signal)
+    _, samples = waveform.joined([replace(front, values=values), data], 0.3, Clock(1))
+    whole = np.concatenate((np.zeros((1, 400)), samples, np.zeros((1, 400))), axis=1)
+    noise = np.random.default_rng(5).standard_normal((2, *whole.shape)) * 10 ** (-35 / 20) / np.sqrt(2)
+    (found,) = packets_in(air.recording_of(air.octets_in(LEVEL * (whole + noise[0] + 1j * noise[1])), Layout("cf32_le", 20e6)))
+    assert found.signal == signal and abs(found.offset) < 600
+    assert 0.0160 < measures.evm(capture([found.frame]).frames[0], tracked=False).frame < 0.0200
+
+
 @pytest.mark.parametrize("lost, said", [(0, ""), (1, "1 sample missing at data symbol"), (2, "2 samples missing at data symbol"),
+                                        *((lost, f"{lost} samples missing at data symbol") for lost in (3, 6, 7, 8, 10, 11, 12)),
                                         (40, "a step in time at data symbol")])
 def test_a_step_within_a_packet(lost, said):
     """Samples are lost at two thirds of the packet: where HT-SIG says that it has N symbols, at about 2 N / 3 - 3."""
-    frames = symbols_of((3, 7, 15), 800, 9)
+    frames = symbols_of((3, 7, 15), 800, 6)
     found = found_in(frames, Scene(snr=30.0, offset=13.0, lost=lost), 2)
     told = [one for one in found if said and one.remarks.startswith(said)]
-    assert len(found) == 9 and (len(told) >= 7 if said else not any(one.remarks for one in found))
+    assert len(found) == 6 and (len(told) >= 5 if said else not any(one.remarks for one in found))
     for one in told:
         symbols = one.frame.rate.symbols(800)
         assert one.step.symbol == pytest.approx(2 * symbols / 3 - 3, abs=2 + symbols / 10)
+
+
+@pytest.mark.parametrize("lost", [4, 5, 9])
+def test_a_step_that_pilots_hardly_show(lost):
+    """Pilots 14 subcarriers apart turn nearly as often by 4, 5 and 9 samples as by none (4 * 14 / 64 = 0.9 turns): no other number is told."""
+    found = found_in(symbols_of((3, 7, 15), 800, 6), Scene(snr=30.0, offset=13.0, lost=lost), 2)
+    assert len(found) == 6 and all(one.step is None or one.step.samples in (None, lost) for one in found)
 
 
 @pytest.mark.parametrize("symbols, place", [(7, 2), (7, 4), (30, 2), (30, 27), (200, 100)])
@@ -329,7 +370,18 @@ def test_a_step_in_a_few_symbols(symbols, place, samples):
     assert track.step_of(still, np.full((symbols, 4), 1000.0), turns, times, 0.0) is None
 
 
-def test_the_script_of_the_page():
-    """docs/pictures/front says what it measures; it isn't run here."""
-    done = subprocess.run([sys.executable, str(TOP / "docs" / "pictures" / "front"), "--help"], capture_output=True, text=True, check=False)
-    assert done.returncode == 0 and "usage: docs/pictures/front" in done.stdout
+@pytest.mark.parametrize("script", ["docs/pictures/front", "bench/recordings"])
+def test_the_scripts_of_the_page(script):
+    """They say what they measure; they aren't run here."""
+    done = subprocess.run([sys.executable, str(TOP / script), "--help"], capture_output=True, text=True, check=False)
+    assert done.returncode == 0 and f"usage: {script}" in done.stdout
+
+
+def test_memory_on_sixteen_antennas():
+    """At 200 million samples a second, by the script of the page: no packet is found in noise, in less than 300 MB."""
+    if not os.path.exists("/proc/self/status"):
+        pytest.skip("the most memory of a process is told by Linux")
+    number = next(n for n, (_, rate, antennas, *_) in enumerate(runpy.run_path(str(TOP / "bench" / "recordings"))["MEMORY"]) if (rate, antennas) == (200, 16))
+    done = subprocess.run([sys.executable, str(TOP / "bench" / "recordings"), "--child", str(number), "-"], capture_output=True, text=True, check=False)
+    found, most = done.stdout.split()
+    assert found == "0" and 50e3 < int(most) < 300e3

@@ -255,7 +255,8 @@ def test_short_frames_are_named():
                                                 for count, verb in ((1, "has"), (2, "have"), (22, "have"))]
     assert [each.interval is None for each in short] == [True, False, False] and "(one frame gives no interval)" in str(short[0])
     assert "one frame" not in str(short[1]) + str(short[2]) and short[0].record()["low"] is None and short[1].record()["low"] is not None
-    both = [*measured(of_scene(Scene(error=-20), Rate(20, 3), 1, 20, 200), shown=False), *measured(of_scene(Scene(error=-5), Rate(20, 3), 1, 9, 100), shown=False)]
+    both = [packet for error, count, length in ((-20, 20, 200), (-5, 9, 100))
+            for packet in measured(of_scene(Scene(error=error), Rate(20, 3), 1, count, length), shown=False)]
     outcome = next(each for each in findings(both, CARRIER, 0.1, 20e6) if each.limit.test == "constellation error")
     assert outcome.frames == 20 and outcome.verdict == "pass" and outcome.value == pytest.approx(-20, abs=0.3)  # the short ones with their errors aren't in it
 

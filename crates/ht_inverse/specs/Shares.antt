@@ -1,5 +1,5 @@
 -- Where a symbol's labels have the coded bits of each encoder, and what the parts of the decoder hand on.
-use Rattle.std.specs.Prelude.{◌≡◌, ℕ, ◌+◌, ◌-◌, ◌*◌, ◌/◌, ◌%◌, ◌^◌, ◌<◌, ◌==◌, List, [], length, map, take, slice_index_or}
+use Rattle.std.specs.Prelude.{◌≡◌, ℕ, ◌+◌, ◌-◌, ◌*◌, ◌/◌, ◌%◌, ◌<◌, ◌==◌, List, [], length, map, take, slice_index_or}
 use Rattle.std.specs.Prelude.{Bool, true, false, Option, None, Some, if◌then◌else◌}
 use Rattle.std.specs.List.{range_with_len}
 use Rattle.std.specs.Int.{bit_at}
@@ -100,19 +100,3 @@ pub record AreOfEncoders {X : Type 0} (r : Rate) (each : ℕ → X) (none first 
 -- the codewords of a frame
 abbrev pub AreCodewords : Rate → ℕ → ℕ → List ℕ → Codeword → Codeword → Type 0
 AreCodewords r octets erased labels = AreOfEncoders r (codeword_of r octets erased labels) no_codeword
-
--- where labels have the coded bit at place `at` of a run of symbols: the number of the label from the run's first one on
-unfoldable pub offset_of : Rate → ℕ → ℕ → ℕ → ℕ
-offset_of r erased j at = at / share_of r * labels_per_symbol r + (label_bit_of r erased j (at % share_of r)).label
-
--- and the label with that bit alone
-unfoldable pub mask_of : Rate → ℕ → ℕ → ℕ → ℕ
-mask_of r erased j at = 2 ^ (label_bit_of r erased j (at % share_of r)).shift
-
--- the spots of a share, and those of so much of the next symbols that a word begins at each
-abbrev pub spot_count : Rate → ℕ
-spot_count r = share_of r + 64
-
--- a label's bit, where it is known
-abbrev pub decided_in : List ℕ → ℕ → LabelBit → Bool
-decided_in labels label place = bit_at (slice_index_or labels label 0) place.shift == 1

@@ -36,7 +36,6 @@ pub mod laws;
 mod octets;
 mod outcome;
 mod share;
-mod spots;
 mod table;
 mod together;
 

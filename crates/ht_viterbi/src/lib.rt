@@ -15,7 +15,8 @@
 //!
 //! [`decode`] keeps the costs of all 64 states, modulo 256, in the lanes of one vector, from the last step to the
 //! first, so that one way forwards gives the first of the nearest inputs. [`decode_received`] does the same with an
-//! octet for each hard decision, a [`ReceivedBit`]. Both decode a codeword that came as it was sent in one pass, without
+//! octet for each hard decision, a [`ReceivedBit`], and [`decode_packed`] with words of 60 of them. All three decode a
+//! codeword that came as it was sent in one pass, without
 //! the trellis. [`decode_weights`] keeps whole costs in lanes of 32 bits.
 //! [`decode_places`] answers for any places, one state after the other, and [`plain_decode`] is its form for hard
 //! decisions. The definitions are in `specs/Inputs.antt`: a minimum over all inputs, with no trellis in it.

@@ -13,10 +13,9 @@ use Rattle.ht_map.specs.Gray.{label_bit, label_of}
 use Rattle.ht_pam.specs.declared.point.Point.{Point}
 use Rattle.ht_metric.specs.Vectors.{no_point}
 use Rattle.ht_sphere.specs.Coordinates.{points_from}
-use Rattle.ht_soft.specs.Halves.{has_bit, half_axes, label_has, is}
+use Rattle.ht_soft.specs.Halves.{has_bit, label_has, is}
 use Rattle.ht_weigh.specs.Leasts.{IsLowered, IsOf, place_of, side}
-use Rattle.ht_weigh.specs.Walks.{TellsLabel, TellsStream, TellsBehind, TellsOthers, first_cost, half_cost}
-use Rattle.ht_pam.specs.declared.axes.Axes.{Axes}
+use Rattle.ht_weigh.specs.Walks.{TellsLabel, TellsStream, TellsBehind, TellsOthers, half_cost}
 use Rattle.ht_weigh.proofs.Lowered.{lowered-not, lowered-then, lowered-as}
 
 below_next : (b e : ℕ) → b < e + 1 → (b < e) ⊎ (b ≡ e)
@@ -175,16 +174,13 @@ point_is xs k p some lt is_i is_q =
     ap (λ (a : ℤ). both a p.q) at_i ∙ ap (both (get_or (drop 2 xs) (2 * (k - 1)) (pos 0))) at_q
     ∙ sym (points_at (drop 2 xs) (k - 1) (omega (arith, long)))
 
--- the nearest levels of a half, as they are computed
-pub half_told : (m : Modulation) (e from : ℕ) (value : Bool) (p n i q : ℕ) (re im u v : ℤ) (d half : ℕ) (axes : Axes) (a b : List ℕ)
-    → axes ≡ half_axes m e value → u ≡ im → v ≡ re → q ≡ first_cost axes.q u d → i ≡ first_cost axes.i v d → n ≡ q + i → half ≡ 2 * from + side value
-    → from ≡ e → IsLowered (IsOf half (p + n)) a b → IsLowered (IsOf (place_of m 1 e value) (half_cost m e value p re im d)) a b
-half_told m e from value p n i q re im u v d half axes a b cut is_im is_re cost_q cost_i sum is_half is_from h =
+-- the least distance of the half with another bit, as it is computed
+pub other_told : (m : Modulation) (e from : ℕ) (value : Bool) (p n cost : ℕ) (re im : ℤ) (d half : ℕ) (other : Bool) (a b : List ℕ) → value ≡ other
+    → half_cost m e other 0 re im d ≡ cost → n ≡ cost → half ≡ 2 * from + side value → from ≡ e → IsLowered (IsOf half (p + n)) a b
+    → IsLowered (IsOf (place_of m 1 e value) (half_cost m e value p re im d)) a b
+other_told m e from value p n cost re im d half other a b is is_cost passed is_half is_from h =
     let none : 0 * bits_of m + e ≡ e = omega arith in
     let at : half ≡ place_of m 1 e value = is_half ∙ ap (λ (k : ℕ). 2 * k + side value) (is_from ∙ sym none) in
-    let q_is : q ≡ first_cost (half_axes m e value).q im d =
-    cost_q ∙ ap (λ (t : ℤ). first_cost axes.q t d) is_im ∙ ap (λ (x : Axes). first_cost x.q im d) cut in
-    let i_is : i ≡ first_cost (half_axes m e value).i re d =
-    cost_i ∙ ap (λ (t : ℤ). first_cost axes.i t d) is_re ∙ ap (λ (x : Axes). first_cost x.i re d) cut in
-    let all : p + n ≡ half_cost m e value p re im d = omega (arith, sum, q_is, i_is) in
+    let same : half_cost m e value 0 re im d ≡ cost = ap (λ (v : Bool). half_cost m e v 0 re im d) is ∙ is_cost in
+    let all : p + n ≡ half_cost m e value p re im d = omega (arith, same, passed) in
     subst (λ (k : ℕ). IsLowered (IsOf (place_of m 1 e value) k) a b) all (subst (λ (k : ℕ). IsLowered (IsOf k (p + n)) a b) at h)

@@ -31,7 +31,7 @@ use Rattle.ht_weigh.specs.Walks.{Tells, TellsLabel, TellsStream, TellsBehind, Te
 use Rattle.ht_weigh.proofs.Lowered.{Nearer, lowered-not, lowered-then, lowered-as}
 
 -- what a level costs
-abbrev at_cost : ℤ → ℕ → ℤ → ℕ
+abbrev pub at_cost : ℤ → ℕ → ℤ → ℕ
 at_cost t d x = square (t -ℤ (pos d *ℤ x))
 
 -- a ladder as a coordinate
@@ -47,10 +47,10 @@ pub first_has : (l : Rungs) (t : ℤ) (d : ℕ) → IsLadder l → has l (first_
 first_has l t d ladder = sorted_has l (gap t d) (first_of l t d) (first_among (nearest_first (gap t d) (levels l)) (walk_some l (gap t d) ladder))
 
 -- each half has a level on both axes
-unfoldable is_ladder : Rungs → Bool
+unfoldable pub is_ladder : Rungs → Bool
 is_ladder l = ((nat_eq l.size 1 || nat_eq l.size 2) || (nat_eq l.size 4 || nat_eq l.size 8)) && (nat_lt 0 l.mask && nat_lt l.mask (2 ^ l.size))
 
-ladder_from : (l : Rungs) → is_ladder l ≡ true → IsLadder l
+pub ladder_from : (l : Rungs) → is_ladder l ≡ true → IsLadder l
 unfolding is_ladder
 ladder_from l e =
     let size = (nat_eq l.size 1 || nat_eq l.size 2) || (nat_eq l.size 4 || nat_eq l.size 8) in
@@ -234,6 +234,10 @@ module _ (m : Modulation) (q i : Real) (s : List ℤ) (re im : ℤ) (d p : ℕ) 
       let u = under v h in
       omega (arith, u.distance_is, least (axes_of m).q im d u.x u.has_x, least (axes_of m).i re d u.y u.has_y)
 
+  pub one_there : Among below (first_of (axes_of m).i re d ∷ first_of (axes_of m).q im d ∷ s, nearest)
+  one_there = there (first_of (axes_of m).q im d) (first_of (axes_of m).i re d) (first_has (axes_of m).q im d first.good_q)
+      (first_has (axes_of m).i re d first.good_i)
+
   -- where that isn't below the clip, nothing has to be lowered
   pub far : (clip t : ℕ) (a : List ℕ) → AreWithin clip a → t ≡ nearest → clip ≤ t → IsLowered (Tells m below) a a
   far clip t a within is beyond =
@@ -413,6 +417,14 @@ nearest_is m d p a b n u v re im x y is_im is_re is_x is_y cost_q cost_i sum =
     let i_is : b ≡ first_cost (axes_of m).i re d =
     cost_i ∙ ap (λ (t : ℤ). at_cost t d y) is_re ∙ ap (at_cost re d) is_y in
     omega (arith, sum, q_is, i_is)
+
+-- what the nearest level of a ladder costs, as it is computed
+pub first_cost_is : (k l : Rungs) (d n : ℕ) (u t : ℤ) → k ≡ l → u ≡ t → n ≡ first_cost k u d → n ≡ first_cost l t d
+first_cost_is k l d n u t same passed is = is ∙ ap (λ (v : ℤ). first_cost k v d) passed ∙ ap (λ (r : Rungs). first_cost r t d) same
+
+-- what its levels cost
+pub first_costs : (l : Rungs) (d a : ℕ) (u t x : ℤ) → u ≡ t → x ≡ first_of l t d → a ≡ square (u -ℤ (pos d *ℤ x)) → a ≡ first_cost l t d
+first_costs l d a u t x is_target is_level cost = cost ∙ ap (λ (v : ℤ). at_cost v d x) is_target ∙ ap (at_cost t d) is_level
 
 -- the nearest point has a label
 pub has_label : (m : Modulation) (re im : ℤ) (d : ℕ) → label_of m (point (first_of (axes_of m).i re d) (first_of (axes_of m).q im d)) ≡ None → ⊥

@@ -1,5 +1,5 @@
 -- The least distances at the end, and the weights that they give.
-use Rattle.std.proofs.Common.{◌≡◌, ◌⊎◌, ℕ, zero, suc, ◌+◌, ◌-◌, ◌*◌, ◌<◌, ◌≤◌, pos, neg_ℤ, List, [], ◌∷◌, length, get_or, replicate, min, inl, inr, arith}
+use Rattle.std.proofs.Common.{◌≡◌, ◌⊎◌, ℕ, zero, suc, ◌+◌, ◌-◌, ◌*◌, ◌<◌, ◌≤◌, ℤ, pos, neg_ℤ, List, [], ◌∷◌, length, get_or, replicate, min, inl, inr, arith}
 use Rattle.std.proofs.Common.{refl, ap, sym, ◌∙◌, subst}
 use Rattle.std.proofs.Common.{Bool, true, false, true≢false, ◌&&◌, nat_eq, if◌then◌else◌, Option, Some, None, is_some}
 use Rattle.std.specs.Prelude.{slice_index}
@@ -22,9 +22,10 @@ use Rattle.ht_metric.specs.Distance.{distance_of}
 use Rattle.ht_metric.specs.Vectors.{is_in, levels_of, no_point}
 use Rattle.ht_metric.specs.Jobs.{JobView, IsJob, IsNear, near}
 use Rattle.ht_metric.proofs.Finding.{is_near}
-use Rattle.ht_sphere.specs.Coordinates.{from_last, points_from}
+use Rattle.ht_sphere.specs.Coordinates.{Real, first_of, from_last, i_at, points_from, q_at}
 use Rattle.ht_sphere.specs.Tree.{Reached}
-use Rattle.ht_sphere.specs.Searching.{leaves}
+use Rattle.ht_sphere.specs.Searching.{leaves, Among}
+use Rattle.ht_sphere.proofs.Down.{down_system}
 use Rattle.ht_sphere.proofs.Finding.{points_back}
 use Rattle.ht_sphere.proofs.Paths.{leaf_path, path_leaf}
 use Rattle.ht_sphere.proofs.Rows.{leads, way_to}
@@ -33,9 +34,9 @@ use Rattle.ht_soft.specs.Weights.{heaviest, weight_of, weight_at}
 use Rattle.ht_soft.proofs.Cuts.{half-vectors}
 use Rattle.ht_soft.proofs.Signs.{weight-less, weight-more}
 use Rattle.ht_weigh.specs.Leasts.{IsLowered, place_of, side}
-use Rattle.ht_weigh.specs.Walks.{Tells}
+use Rattle.ht_weigh.specs.Walks.{Tells, first_cost}
 use Rattle.ht_weigh.proofs.Labels.{few-bits}
-use Rattle.ht_weigh.proofs.Leaf.{half_ladders, no_label}
+use Rattle.ht_weigh.proofs.Leaf.{IsFirst, half_ladders, no_label, none_nearer, one_there}
 
 -- the halves of the bits stand apart
 sides_apart : (a b : ℕ) (v w : Bool) → 2 * a + side v ≡ 2 * b + side w → (a ≡ b) × (v ≡ w)
@@ -123,6 +124,31 @@ clipped z o clip a b is_a is_b near = elim near [
     | inr within ↦ let e : a ≡ z = omega arith in let f : b ≡ o = omega arith in ap (λ (n : ℕ). weight_of n b) e ∙ ap (weight_of z) f
   ]
 ]
+
+-- the least distance on one stream
+pub alone_least : (m : Modulation) (job : JobView) (is_job : IsJob job) → length job.system ≡ 1 → (re im : ℤ) (d : ℕ)
+    → IsFirst m (q_at job.system job.grid 0) (i_at job.system job.grid 0) [] re im d
+    → (near job).distance ≡ first_cost (axes_of m).q im d + first_cost (axes_of m).i re d
+alone_least m job is_job one re im d first =
+    let q = q_at job.system job.grid 0 in
+    let i = i_at job.system job.grid 0 in
+    let all : q ∷ i ∷ [] ≡ from_last job.system job.grid = down_system job job.system 1 is_job refl (sym one) in
+    let nearest = is_near job is_job.grid in
+    let v : Reached = (
+      first_of (axes_of m).i re d ∷ first_of (axes_of m).q im d ∷ [],
+      0 + (first_cost (axes_of m).q im d + first_cost (axes_of m).i re d),
+    ) in
+    let there : Among (leaves (from_last job.system job.grid) [] 0) v =
+    subst (λ (cs : List Real). Among (leaves cs [] 0) v) all (one_there m q i [] re im d 0 first) in
+    let lead = leads job.system job.grid v is_job.streams (leaf_path (from_last job.system job.grid) [] 0 v there) in
+    let far : v.1 ≡ distance_of job.system lead.vector = ap (λ (u : Reached). u.1) lead.is in
+    let upper = nearest.nearest lead.vector lead.within in
+    let x = (near job).vector in
+    let w : Reached = (levels_of x, distance_of job.system x) in
+    let mine : Among (leaves (from_last job.system job.grid) [] 0) w =
+    path_leaf (from_last job.system job.grid) [] 0 w (way_to job.system job.grid x is_job.streams nearest.within) in
+    let lower = none_nearer m q i [] re im d 0 first w (subst (λ (cs : List Real). Among (leaves cs [] 0) w) (sym all) mine) in
+    omega (arith, upper, far, lower)
 
 module _ (m : Modulation) (job : JobView) (is_job : IsJob job) (full : job.grid ≡ replicate (length job.grid) (axes_of m)) where
   abbrev half : ℕ → ℕ → Bool → JobView

@@ -1,26 +1,72 @@
 //! The first stream in closed form.
-ghost use Rattle.std.specs.Prelude.{◌≡◌, ◌<◌, ◌≤◌, ◌+◌, ◌^◌, length, unsigned_abs};
+ghost use Rattle.std.specs.Prelude.{◌≡◌, ◌<◌, ◌≤◌, ◌+◌, ◌^◌, length, not, replicate, unsigned_abs};
+ghost use Rattle.ht_rate.specs.declared.kinds.Modulation.{Modulation};
 ghost use Rattle.ht_rate.specs.Schemes.{bits_of};
 ghost use Rattle.ht_map.specs.Constellation.{axes_of};
+ghost use Rattle.ht_map.specs.Gray.{label_bit, point_of};
+ghost use Rattle.ht_metric.specs.Jobs.{near};
 ghost use Rattle.ht_sphere.specs.Coordinates.{first_of};
 ghost use Rattle.ht_weigh.specs.Leasts.{place_of, IsOf, IsLowered};
-ghost use Rattle.ht_weigh.specs.Walks.{first_cost, half_cost, TellsOthers};
+ghost use Rattle.ht_weigh.specs.Walks.{first_cost, half_cost, IsAcross, IsNamed, TellsOthers};
 
 use crate::leasts::{half, lower};
 use crate::streams::is_one;
+use ht_metric::Job;
 use ht_pam::{Axes, Ladder, Point};
 use ht_rate::Modulation;
-use ht_soft::half_axes;
-use ht_sphere::remainder::{Remainder, cost};
+use ht_sphere::remainder::{Remainder, cost, remainder_of};
+
+// The nearest levels with another bit: a table for one, two and three bits that name a level, with a row for each of these bits,
+// and in it a level for each name. Of the levels named by 000, 001, 011, 010, 110, 111, 101 and 100, from -7 to 7, that is
+// nearest to a target which is nearest to it, and has the other bit, is always the same one: with the first bit -1 or 1, with the
+// others one on the same side of 0.
+const ACROSS: [[[i8; 8]; 3]; 3] = [
+    [[1, -1, 0, 0, 0, 0, 0, 0], [0; 8], [0; 8]],
+    [
+        [1, 1, -1, -1, 0, 0, 0, 0],
+        [-1, -3, 1, 3, 0, 0, 0, 0],
+        [0; 8],
+    ],
+    [
+        [1, 1, 1, 1, -1, -1, -1, -1],
+        [-3, -3, -5, -5, 3, 3, 5, 5],
+        [-5, -7, -3, -1, 5, 7, 3, 1],
+    ],
+];
+
+// The nearest level with another bit, wherever the level of this name is the nearest of all. `count` bits name a level.
+#[inline(always)]
+fn across(count: u8, bit: u8, name: u8) -> i8
+    requires some { 1 ≤ count }
+    requires few { count ≤ 3 }
+    requires bit { bit < count }
+    requires name { name < 2 ^ count }
+    ensures across { IsAcross count bit name result }
+    ensures bound { unsigned_abs result ≤ 7 }
+{
+    ACROSS[usize::from(count - 1)][usize::from(bit)][usize::from(name)]
+}
 
 // What the nearest level of a ladder leaves of a target, squared.
 #[inline(always)]
-pub(crate) fn nearest_cost(ladder: Ladder, target: i64, d: u16) -> u64
+fn nearest_cost(ladder: Ladder, target: i64, d: u16) -> u64
     requires { unsigned_abs target ≤ 2 ^ 31 + 2 ^ 21 }
     ensures value { result ≡ first_cost ladder target d }
     ensures bound { result ≤ 2 ^ 62 + 2 ^ 55 }
 {
     cost(d, target, ladder.nearest(target, u32::from(d)))
+}
+
+// The least distance of a job of one stream, on which I and Q stand alone.
+pub(crate) fn least_alone(job: &Job) -> u128
+    requires one { length job.now.system ≡ 1 }
+    ensures distance { (m : Modulation) → job.now.grid ≡ replicate (length job.now.grid) (axes_of m) → result ≡ (near job.now).distance }
+    ensures below { result < 2 ^ 66 }
+{
+    let left = remainder_of(job, 1, &[0, 0]);
+    let of_i = nearest_cost(job.grid().i_ladder(1), left.re, left.d);
+    let of_q = nearest_cost(job.grid().q_ladder(1), left.im, left.d);
+    u128::from(of_q + of_i)
 }
 
 // The nearest point of the first stream: the nearest level of I and that of Q.
@@ -39,53 +85,64 @@ pub(crate) fn nearest_point(all: &Axes, left: &Remainder) -> Point
     }
 }
 
-// Lowers the least distance of one half of the first stream's points to that of its nearest levels.
-fn lower_half(
+// What the nearest levels of the half with the other bit cost together, where the nearest point of all has this label, and its
+// levels have these costs.
+#[inline(always)]
+fn other_cost(
     modulation: Modulation,
-    all: &Axes,
     left: &Remainder,
-    partial: u128,
+    label: u8,
+    costs: (u64, u64),
     bit: u8,
-    value: bool,
-    leasts: &mut [u128],
-)
-    requires all { all.now ≡ axes_of modulation }
+) -> u64
     requires bit { bit < bits_of modulation }
     requires re { unsigned_abs left.now.re ≤ 2 ^ 31 + 2 ^ 21 }
     requires im { unsigned_abs left.now.im ≤ 2 ^ 31 + 2 ^ 21 }
-    requires small { partial + 2 ^ 65 < 2 ^ 128 }
-    requires size { length leasts.old ≡ 48 }
-    ensures { IsLowered (IsOf (place_of modulation 1 bit value) (half_cost modulation bit value partial left.now.re left.now.im left.now.d)) leasts.old
-        leasts.new }
+    requires named { IsNamed modulation label left.now.re left.now.im left.now.d costs.0 costs.1 }
+    requires i_bound { costs.0 ≤ 2 ^ 62 + 2 ^ 55 }
+    requires q_bound { costs.1 ≤ 2 ^ 62 + 2 ^ 55 }
+    ensures value { half_cost modulation bit (not (label_bit modulation label bit)) 0 left.now.re left.now.im left.now.d ≡ result }
+    ensures bound { result ≤ 2 ^ 63 + 2 ^ 56 }
 {
-    let axes = half_axes(modulation, *all, bit, value);
-    let cost = nearest_cost(axes.q, left.im, left.d) + nearest_cost(axes.i, left.re, left.d);
-    lower(
-        leasts,
-        half(usize::from(bit), value),
-        partial + u128::from(cost),
-    );
+    let last = modulation.label_bits() / 2;
+    let first = modulation.label_bits() - last;
+    let levels = 1u8 << last;
+    if bit < first {
+        let level = across(first, bit, label / levels);
+        costs.1 + cost(left.d, left.re, level)
+    } else {
+        let level = across(last, bit - first, label % levels);
+        cost(left.d, left.im, level) + costs.0
+    }
 }
 
-// Lowers those of all halves of the first stream's points that don't have the bits of this label.
+// Lowers the least distances of all halves of the first stream's points that don't have the bits of this label, which is that of
+// the nearest point. Its levels have these costs, that of I first.
 pub(crate) fn lower_others(
     modulation: Modulation,
-    all: &Axes,
     left: &Remainder,
     partial: u128,
     label: u8,
+    costs: (u64, u64),
     leasts: &mut [u128],
 )
-    requires all { all.now ≡ axes_of modulation }
     requires re { unsigned_abs left.now.re ≤ 2 ^ 31 + 2 ^ 21 }
     requires im { unsigned_abs left.now.im ≤ 2 ^ 31 + 2 ^ 21 }
+    requires named { IsNamed modulation label left.now.re left.now.im left.now.d costs.0 costs.1 }
+    requires i_bound { costs.0 ≤ 2 ^ 62 + 2 ^ 55 }
+    requires q_bound { costs.1 ≤ 2 ^ 62 + 2 ^ 55 }
     requires small { partial + 2 ^ 65 < 2 ^ 128 }
     requires size { length leasts.old ≡ 48 }
     ensures { IsLowered (TellsOthers modulation label partial left.now.re left.now.im left.now.d (bits_of modulation)) leasts.old leasts.new }
 {
     let bits = modulation.label_bits();
     for bit in 0..bits {
-        let value = is_one(label, bits - 1 - bit);
-        lower_half(modulation, all, left, partial, bit, !value, leasts);
+        let value = !is_one(label, bits - 1 - bit);
+        let cost = other_cost(modulation, left, label, costs, bit);
+        lower(
+            leasts,
+            half(usize::from(bit), value),
+            partial + u128::from(cost),
+        );
     }
 }

@@ -7,7 +7,7 @@
 //! least distance were the clip, since the weight is cut there.
 //!
 //! The walk ends above the first stream: I and Q of it stand alone there, so the least distance of a half is that of the
-//! nearest levels with the bit. On one stream nothing is walked.
+//! nearest levels with the bit, which a table gives. On one stream nothing is searched or walked.
 #![tactic(auto)]
 
 mod first;

@@ -35,15 +35,18 @@ fn finish(
         q: job.grid().q_ladder(1),
     };
     let point = nearest_point(&all, &left);
-    let cost = cost(left.d, left.im, point.q) + cost(left.d, left.re, point.i);
-    let nearest = partial + u128::from(cost);
+    let costs = (
+        cost(left.d, left.re, point.i),
+        cost(left.d, left.im, point.q),
+    );
+    let nearest = partial + u128::from(costs.1 + costs.0);
     if nearest >= clip {
         return;
     }
     lower_streams(modulation, job.system().streams(), levels, nearest, leasts);
     if let Some(label) = label(modulation, point) {
         lower_label(modulation, label, 1, 0, nearest, leasts);
-        lower_others(modulation, &all, &left, partial, label, leasts);
+        lower_others(modulation, &left, partial, label, costs, leasts);
     }
 }
 

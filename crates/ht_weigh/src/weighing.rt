@@ -1,5 +1,6 @@
 //! All weights of a job.
 ghost use Rattle.std.specs.Prelude.{◌≡◌, ◌*◌, ◌+◌, ◌<◌, ◌^◌, ◌≤◌, ℕ, [], pos, length, replicate, slice_index, slice_index_or};
+ghost use Rattle.ht_rate.specs.declared.kinds.Modulation.{Modulation};
 ghost use Rattle.ht_rate.specs.Schemes.{bits_of};
 ghost use Rattle.ht_map.specs.Constellation.{axes_of};
 ghost use Rattle.ht_metric.specs.Jobs.{IsJob, near};
@@ -10,6 +11,7 @@ ghost use Rattle.ht_weigh.specs.Leasts.{IsLowered};
 ghost use Rattle.ht_weigh.specs.Walks.{Tells};
 ghost use Rattle.ht_weigh.specs.Weights.{AreWeights};
 
+use crate::first::least_alone;
 use crate::leasts::all_at;
 use crate::walk::walk;
 use ht_metric::Job;
@@ -53,12 +55,23 @@ fn weigh_by<L: Ledger>(modulation: Modulation, job: &Job, weights: &mut [i32], b
     ensures below { result < 2 ^ 66 }
 {
     let mut steps = Steps::<L>::new(blank);
-    let least = find(job, &mut steps).distance;
+    let least = least_distance(job, &mut steps);
     let clip = least + HEAVIEST;
     let mut leasts = all_at(clip);
     lower_all(modulation, job, clip, &mut leasts, &mut steps);
     write(weights, &leasts);
     least
+}
+
+// The least distance of a job. On one stream nothing is searched.
+fn least_distance<L: Ledger>(job: &Job, steps: &mut Steps<L>) -> u128
+    ensures distance { (m : Modulation) → job.now.grid ≡ replicate (length job.now.grid) (axes_of m) → result ≡ (near job.now).distance }
+    ensures below { result < 2 ^ 66 }
+{
+    if job.system().streams() == 1 {
+        return least_alone(job);
+    }
+    find(job, steps).distance
 }
 
 // Lowers the least distances to those of all vectors of the job.

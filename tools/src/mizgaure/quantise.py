@@ -23,6 +23,7 @@ from .formats import DIAGONAL_LIMIT, ENTRY_LIMITS, SAMPLE_LIMITS, CaptureFrame, 
 from .rates import Rate
 
 FOR_SOFT = "soft"  # a gain that fits weights
+BLOCK = 256  # symbols that are rotated at once
 SOFT_DIAGONAL = 80.0  # neighbouring points are then 160 apart, and a weight between them is 25600 of the 65535 at which it is cut
 
 Gain = Optional[Union[float, str]]
@@ -183,7 +184,7 @@ def _quantised(number: int, frame: MeasuredFrame, gain: Gain):
     try:
         rate, erased = frame.rate, frame.erased_mask()
         symbols = rate.symbols(frame.length)
-        channel, received = _numbers("channel", frame.channel, "biufc").astype(complex), _numbers("received", frame.received, "biufc")
+        channel, received = _numbers("channel", frame.channel, "biufc").astype(complex, copy=False), _numbers("received", frame.received, "biufc")
     except InputError as error:
         raise InputError(f"frame {number}: {error}") from error
     antennas = channel.shape[1] if channel.ndim == 3 else 0
@@ -196,6 +197,7 @@ def _quantised(number: int, frame: MeasuredFrame, gain: Gain):
     _check_finite(number, channel, received, erased)
     with np.errstate(all="ignore"):
         triangles, samples = rotate(rate, channel, received, erased)
+        given = gain
         if gain is None or gain == FOR_SOFT:
             largest = _largest_gain(triangles, samples)
             gain = largest if gain is None else min(largest, _soft_gain(rate, triangles))
@@ -206,7 +208,8 @@ def _quantised(number: int, frame: MeasuredFrame, gain: Gain):
         if not all(np.isfinite(part).all() for part in (triangles, samples, gain)):
             raise FitError(f"frame {number}: the parts of the channel and of what was received are too large or too small to be scaled")
         triangles, samples = _rounded(triangles, gain), _rounded(samples, gain)
-    _check_fit(number, triangles, samples, gain)
+    if given is not None and given != FOR_SOFT:  # with the largest gain, and below it, all parts fit
+        _check_fit(number, triangles, samples, gain)
     return CaptureFrame(rate, frame.length, triangles, samples, erased), float(gain)
 
 
@@ -239,14 +242,23 @@ def rotate(rate: Rate, channel: np.ndarray, received: np.ndarray, erased: np.nda
     diagonal = _diagonal(triangles)
     size = np.abs(diagonal)
     phases = np.where(size > 0, diagonal / np.where(size > 0, size, 1), 1)
-    triangles = np.triu(triangles * phases.conj()[:, :, None])
+    triangles *= phases.conj()[:, :, None]
+    triangles *= _upper(rate.streams)
     _diagonal(triangles)[...] = size
     turn = (rotation * phases[:, None, :]).conj()
-    samples = np.ascontiguousarray(np.matmul(vectors.transpose(1, 0, 2), turn).transpose(1, 0, 2))
+    samples = np.empty((len(vectors), *turn.shape[::2]), complex)
+    for first in range(0, len(vectors), BLOCK):
+        np.matmul(vectors[first : first + BLOCK].transpose(1, 0, 2), turn, out=samples[first : first + BLOCK].transpose(1, 0, 2))
     if erased.any():
         triangles[erased] = 0
         samples[:, erased] = 0
     return triangles, samples
+
+
+@lru_cache(maxsize=None)
+def _upper(streams: int) -> np.ndarray:
+    """1 where a triangle has entries, and 0 elsewhere."""
+    return np.triu(np.ones((streams, streams)))
 
 
 def _diagonal(triangles: np.ndarray) -> np.ndarray:

@@ -176,7 +176,8 @@ def examine_recording(recording: Recording, name: str, packets: Sequence[Measure
     offsets, noises = [packet.offset / 1e3 for packet in packets], [packet.noise for packet in packets]
     facts = [("samples", f"{recording.length:,} instants of {recording.layout.channels} antennas, {recording.layout.datatype}, "
                          f"{rate / 1e6:g} million a second, {recording.seconds(recording.length):.6f} s"),
-             ("carrier", "not known" if frequency is None else f"{frequency / 1e6:g} MHz"), ("packets", f"{len(packets)} measured" + (f"; {unmeasured}" if unmeasured else "")),
+             ("carrier", "not known" if frequency is None else f"{frequency / 1e6:g} MHz"),
+             ("packets", f"{len(packets)} measured" + (f"; {unmeasured}" if unmeasured else "")),
              ("offset of the carrier", f"{np.mean(offsets):+.3f} kHz in the mean, {min(offsets):+.3f} to {max(offsets):+.3f} kHz"),
              ("noise of a subcarrier", f"{np.mean(noises):.1f} dB beside the signal in the mean, {min(noises):.1f} to {max(noises):.1f} dB"),
              ("the recorder's own clock", "by how much it may be wrong isn't said" if reference is None else f"wrong by at most {reference:g} ppm, as was said"),

@@ -67,7 +67,8 @@ def facts(words: Sequence[str], program: Optional[str], inputs: Sequence[str]) -
         The files that were read.
     """
     made = [("made", f"{datetime.now(timezone.utc):%Y-%m-%d %H:%M:%S} UTC"), ("command", shlex.join(words)),
-            ("tools", f"mizgaure tools {__version__}, Python {platform.python_version()}, numpy {np.__version__}"), *(program_facts(program) if program else ())]
+            ("tools", f"mizgaure tools {__version__}, Python {platform.python_version()}, numpy {np.__version__}"),
+            *(program_facts(program) if program else ())]
     for path in inputs:
         octets, digest = digest_of(path)
         made.append((f"SHA-256 of {path}", f"{digest} ({octets:,} octets)"))

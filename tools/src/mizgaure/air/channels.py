@@ -8,7 +8,7 @@ and HT-SIG in both halves: these two together are a channel with twice as many r
 from __future__ import annotations
 
 from functools import lru_cache
-from typing import Tuple
+from typing import Dict, Iterator, Tuple
 
 import numpy as np
 
@@ -19,6 +19,9 @@ from .standard import TRANSFORM
 LOWER, UPPER = -TRANSFORM // 2, TRANSFORM // 2  # the middles of the halves of 40 MHz, in subcarriers
 PASSED, STOPPED = 28.7 / 64, 32 / 64  # of 20 MHz: up to where a channel's filter passes all, and from where on nothing
 MARGIN = 256  # samples at 40 MHz on both sides of those that are filtered
+TILE = 1 << 12  # samples at 40 MHz of a tile; transforms of some of them at once take a third of the time of one as large
+ROWS = 8  # rows that are transformed at once
+PLAIN = 1 << 14  # samples at 20 MHz of one antenna that are looked at at once, so that a cache holds them
 
 
 class Channel:
@@ -48,16 +51,63 @@ def cut_out(piece: Piece, first: int, count: int, middles: Tuple[int, ...]) -> T
     low = 2 * first - MARGIN
     length = _length(2 * count + 2 * MARGIN)
     spectra = forward(piece.between(low, low + length))
-    passed = response(length // 2)
     # Mixing by a quarter of the rate from the recording's beginning on has this sign at an even instant.
     turn = 1 - 2 * (first % 2)
-    made = []
-    for middle in middles:
-        spectrum = np.roll(spectra, -middle * length // (2 * TRANSFORM), axis=-1)
-        inside = np.concatenate((spectrum[:, : length // 4], spectrum[:, length - length // 4 :]), axis=1)
-        samples = backward(inside * (passed * (turn if middle else 1)))
-        made.append(samples[:, MARGIN // 2 : MARGIN // 2 + count])
-    return tuple(made)
+    made = (backward(_inside(spectra, middle, turn if middle else 1)) for middle in middles)
+    return tuple(samples[:, MARGIN // 2 : MARGIN // 2 + count] for samples in made)
+
+
+def stretches(piece: Piece, middles: Tuple[int, ...], first: int, count: int, step: int, more: int) -> Iterator[Tuple[int, Dict[int, np.ndarray]]]:
+    """All samples of parts of 20 MHz of a piece, each with some behind them: stretch by stretch, some of them at once.
+
+    Parameters
+    ----------
+    piece : Piece
+    middles : tuple of int
+        Of the parts; (0,) at 20 million samples a second.
+    first, count : int
+        The first instant, which is even, and how many there are at least.
+    step : int
+        The instants from one stretch to the next are a multiple of this even number.
+    more : int
+        How many instants of the next one a stretch has, too.
+
+    Yields
+    ------
+    number : int
+        Of the first instant of the first one of these stretches, counted from ``first``.
+    samples : dict of ndarray of complex64, shape (antennas, stretches, instants)
+        For each part, zeros where the piece has none.
+    """
+    antennas = len(piece.samples)
+    if piece.over == 1:
+        length = max(1, PLAIN // antennas // step) * step
+        for number in range(0, count, length):
+            size = min(length, -(-(count - number) // step) * step)
+            yield number, {0: piece.between(first + number, first + number + size + more)[:, None]}
+        return
+    length = ((TILE - 2 * MARGIN) // 2 - more) // step * step
+    together = max(1, ROWS // antennas)
+    for number in range(0, count, length * together):
+        tiles = min(together, -(-(count - number) // length))
+        low = 2 * (first + number) - MARGIN
+        samples = np.ascontiguousarray(piece.between(low, low + 2 * length * (tiles - 1) + TILE))
+        along, width = samples.strides
+        spectra = forward(np.ndarray((antennas, tiles, TILE), samples.dtype, samples, 0, (along, 2 * length * width, width)))
+        yield number, {middle: backward(_inside(spectra, middle))[..., MARGIN // 2 : MARGIN // 2 + length + more] for middle in middles}
+
+
+def _inside(spectra: np.ndarray, middle: int, turn: int = 1) -> np.ndarray:
+    """What a channel's filter passes of spectra at 40 million samples a second: complex64, half as many numbers."""
+    length = spectra.shape[-1]
+    half, quarter, place = length // 2, length // 4, middle * length // (2 * TRANSFORM)
+    passed = _response_of_parts(half, turn)
+    made = np.empty((*spectra.shape[:-1], half), np.complex64)
+    parts, inside = spectra.view(np.float32), made.view(np.float32)
+    for begin, there in ((0, place % length), (quarter, (place - quarter) % length)):
+        piece = slice(2 * begin, 2 * (begin + quarter))
+        np.multiply(parts[..., 2 * there : 2 * (there + quarter)], passed[piece], out=inside[..., piece])
+    return made
 
 
 def _length(count: int) -> int:
@@ -71,3 +121,9 @@ def response(length: int) -> np.ndarray:
     """What a channel's filter passes of each frequency: float32, halved for the half as many samples."""
     share = (STOPPED - np.abs(np.fft.fftfreq(length))) / (STOPPED - PASSED)
     return (0.5 * np.sin(np.pi / 2 * np.clip(share, 0, 1)) ** 2).astype(np.float32)
+
+
+@lru_cache(maxsize=64)
+def _response_of_parts(length: int, turn: int) -> np.ndarray:
+    """The same with a sign for each part of complex numbers: float32, shape (2 * length,)."""
+    return np.repeat(np.float32(turn) * response(length), 2)

@@ -208,4 +208,4 @@ def _lasts(signal: HtSignal, greenfield: bool) -> int:
 
 def _is_turned(values: np.ndarray) -> bool:
     """Whether a symbol's points lie on the imaginary axis, as those of HT-SIG."""
-    return float(np.sum(values.imag**2)) > float(np.sum(values.real**2))
+    return complex(np.dot(values, values)).real < 0

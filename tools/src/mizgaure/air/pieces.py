@@ -119,10 +119,12 @@ def pieces_of(recording: Recording, over: int, first: int = 0, stop: int = ENDLE
     recording.pass_over(max(0, number * step_of(recording.layout.channels, over) - FRONT * over))
     while True:
         piece = piece_of(recording, over, number)
+        done = piece.final or piece.end >= stop
         if piece.samples.shape[1]:
             yield piece
-        if piece.final or piece.end >= stop:
+        if done:
             return
+        del piece  # so that there is one at a time
         number += 1
 
 
@@ -177,12 +179,12 @@ def level_of(parts: np.ndarray, powers: np.ndarray) -> np.ndarray:
     weights = np.add.reduceat(1 / spread, starts, axis=1)
     sums = np.add.reduceat(means / spread, starts, axis=1)
     # A line through the windows round each one, at its middle; where there is only one window, its mean.
-    kernels = _kernels(len(starts))
-    none, first, second = (weights @ kernel for kernel in kernels[:3])
+    kernels = _kernels()
+    none, first, second = (_around(weights, kernel) for kernel in kernels[:3])
     second += ALONE * none
     whole = none * second - first**2
-    found = (second * (sums @ kernels[0]) - first * (sums @ kernels[1])) / whole
-    squares = [weights @ kernel for kernel in kernels[3:]]
+    found = (second * _around(sums, kernels[0]) - first * _around(sums, kernels[1])) / whole
+    squares = [_around(weights, kernel) for kernel in kernels[3:]]
     variance = (second**2 * squares[0] - 2 * first * second * squares[1] + first**2 * squares[2]) / (BLOCK * whole**2)
     found *= np.maximum(1 - CERTAIN * variance / np.maximum(np.abs(found) ** 2, 1e-60), 0)
     middles, places = starts + BLOCKS / 2, np.arange(blocks) + 0.5
@@ -190,9 +192,18 @@ def level_of(parts: np.ndarray, powers: np.ndarray) -> np.ndarray:
     return np.array(made, np.complex64).reshape(antennas, blocks)
 
 
-@lru_cache(maxsize=4)
-def _kernels(count: int) -> Tuple[np.ndarray, ...]:
-    """How much each of so many windows counts for each, times the powers 0 to 2 of their distance; and the square of it, times these."""
-    apart = (np.arange(count)[:, None] - np.arange(count)) / WINDOWS
+@lru_cache(maxsize=None)
+def _kernels() -> Tuple[np.ndarray, ...]:
+    """How much a window counts for another one, by how far that is in front of it, times the powers 0 to 2 of how far it is behind.
+
+    And the square of it, times these.
+    """
+    apart = np.arange(WINDOWS - 1, -WINDOWS, -1) / WINDOWS
     kernel = np.maximum(1 - np.abs(apart), 0)
     return tuple(each * apart**power for each in (kernel, kernel**2) for power in range(3))
+
+
+def _around(values: np.ndarray, kernel: np.ndarray) -> np.ndarray:
+    """The sums over the windows round each one, which a kernel weighs, of rows."""
+    count = values.shape[1]
+    return np.array([np.convolve(row, kernel)[WINDOWS - 1 : WINDOWS - 1 + count] for row in values])

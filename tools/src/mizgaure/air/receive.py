@@ -393,6 +393,8 @@ def combined(pilots: np.ndarray, expected: np.ndarray) -> np.ndarray:
 
 def _clipped(samples: np.ndarray) -> float:
     """The share of parts that are as large as the largest one of their antenna, where there are more than a few of them."""
-    parts = np.abs(np.ascontiguousarray(samples).view(np.float32))
-    count = max(int(np.count_nonzero(row >= AS_LARGE * row.max())) for row in parts)
-    return count / parts.shape[1] if count > FEW else 0.0
+    most = 0
+    for row in samples:  # one by one, since a long packet on many antennas is large
+        parts = np.abs(np.ascontiguousarray(row).view(np.float32))
+        most = max(most, int(np.count_nonzero(parts >= AS_LARGE * parts.max())))
+    return most / (2 * samples.shape[1]) if most > FEW else 0.0

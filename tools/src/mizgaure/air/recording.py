@@ -113,28 +113,43 @@ def _open_raw(path: str, layout: Layout, frequency: Optional[float]) -> Recordin
 
 @dataclass
 class Writer:
-    """Samples on their way into a file."""
+    """Samples on their way into a file.
+
+    Parameters
+    ----------
+    stream : binary file
+    layout : Layout
+    length, clipped : int
+        The instants written, and how many parts were beyond full scale.
+    annotations : list of dict
+        What SigMF is to say of them.
+    bits : int, optional
+        Of the converter, 2 to 16: parts are rounded to so many; by default to what the type holds.
+    """
 
     stream: BinaryIO
     layout: Layout
     length: int = 0
     clipped: int = 0
     annotations: List[Dict[str, Any]] = field(default_factory=list)
+    bits: Optional[int] = None
 
     def write(self, samples: np.ndarray) -> None:
         """Write samples of full scale 1: complex, shape (channels, instants). What is beyond full scale is clipped."""
         kind, scale, _ = TYPES[self.layout.datatype]
         parts = np.stack((samples.real, samples.imag), axis=-1).transpose(1, 0, 2)
-        if scale != 1:
-            scaled = np.rint(parts * scale)
-            parts = np.clip(scaled, -scale, scale - 1)
+        levels = scale if self.bits is None else 2.0 ** (self.bits - 1)
+        if levels != 1:
+            scaled = np.rint(parts * levels)
+            parts = np.clip(scaled, -levels, levels - 1)
             self.clipped += int(np.count_nonzero(parts != scaled))
+            parts *= scale / levels
         self.stream.write(np.ascontiguousarray(parts, kind).tobytes())
         self.length += samples.shape[1]
 
 
 def write_recording(path: str, layout: Layout, fill, *, raw: bool = False, frequency: Optional[float] = None, description: str = "",
-                    force: bool = False) -> Writer:
+                    force: bool = False, bits: Optional[int] = None) -> Writer:
     """Write a recording: SigMF, or the samples alone. Either file appears once both are written.
 
     Parameters
@@ -152,6 +167,8 @@ def write_recording(path: str, layout: Layout, fill, *, raw: bool = False, frequ
         For people.
     force : bool
         Whether files that are there already are replaced.
+    bits : int, optional
+        As of `Writer`.
 
     Returns
     -------
@@ -169,7 +186,7 @@ def write_recording(path: str, layout: Layout, fill, *, raw: bool = False, frequ
         if name is not None:
             refuse_overwriting(name, force)
     with writing(data, force) as stream:
-        writer = Writer(stream, layout)
+        writer = Writer(stream, layout, bits=bits)
         fill(writer)
         if meta is not None:
             stream.flush()  # before the metadata get their name

@@ -279,16 +279,17 @@ class Recording:
 def decoded(octets: bytes, layout: Layout) -> np.ndarray:
     """The whole samples in octets: complex64 of full scale 1, shape (channels, instants)."""
     kind, scale, zero = TYPES[layout.datatype]
-    count = len(octets) // layout.octets
-    parts = np.frombuffer(octets, kind, 2 * layout.channels * count).reshape(count, layout.channels, 2)
-    made = np.empty((layout.channels, count, 2), np.float32)
+    count, size = len(octets) // layout.octets, 2 * np.dtype(kind).itemsize
+    # Whole samples change places, since their parts by themselves would take several times as long.
+    whole = np.frombuffer(octets, "c16" if size > 8 else f"u{size}", layout.channels * count).reshape(count, layout.channels)
+    parts = np.ascontiguousarray(whole.T).view(kind)
     with np.errstate(invalid="ignore", over="ignore"):
-        made[...] = parts.transpose(1, 0, 2)
+        made = parts.astype(np.float32)
     if zero:
         made -= np.float32(zero)
     if scale != 1:
         made *= np.float32(1 / scale)
-    return made.view(np.complex64)[..., 0]
+    return made.view(np.complex64)
 
 
 class Joined(Recording):

@@ -4,6 +4,7 @@ from __future__ import annotations
 
 import os
 from dataclasses import replace
+from functools import partial
 from itertools import islice, takewhile
 from tempfile import TemporaryDirectory, gettempdir
 from typing import Dict, Iterable, Iterator, List, Optional, Tuple
@@ -19,7 +20,7 @@ from .pieces import Piece, pieces_of
 from .receive import MISTAKE, Hearing, Packet, fault_of, hear
 from .recording import Recording
 from .spectra import FRONT
-from .synchronise import Candidate, Correlation, agreement, correlation_of, find_training
+from .synchronise import Candidate, Correlation, agreement, correlations_of, find_training
 
 Middles = Tuple[int, ...]
 
@@ -58,7 +59,7 @@ def packets(recording: Recording, over: int, keep: bool = False, processes: int 
 def _found(pieces: Iterator[Piece], over: int, keep: bool, processes: int) -> Iterator[Packet]:
     """The packets of pieces that stand one behind the other."""
     if processes == 1:
-        yield from apart((packets_of(piece, keep) for piece in pieces), over)
+        yield from apart(map(partial(packets_of, keep=keep), pieces), over)  # which keeps no piece while the next one is read
         return
     with TemporaryDirectory(prefix="mizgaure-") as folder:
         tasks = ((_kept(piece, f"{folder}/{number}.npy"), keep) for number, piece in enumerate(pieces))
@@ -135,8 +136,9 @@ class _Search:
         self.piece, self.keep = piece, keep
         self.channels = {middles: Channel(piece, middles) for middles in CHANNELS[piece.over]}
         begin = max(piece.first, piece.begin - MARGIN * piece.over) // piece.over
-        single = {middles: correlation_of(channel, begin, piece.end // piece.over + MARGIN)
-                  for middles, channel in self.channels.items() if len(middles) == 1}
+        middles = tuple(middles[0] for middles in self.channels if len(middles) == 1)
+        found = correlations_of(piece, middles, begin, piece.end // piece.over + MARGIN)
+        single = {(middle,): correlation for middle, correlation in found.items()}
         both = {(LOWER, UPPER): single[LOWER,].together(single[UPPER,])} if piece.over == 2 else {}
         self.correlations: Dict[Middles, Correlation] = {**both, **single}
         self.free = {place: 0 for place in (LOWER, 0, UPPER)}  # from which instant on something may begin there

@@ -12,12 +12,13 @@ from __future__ import annotations
 import cmath
 from dataclasses import dataclass
 from functools import lru_cache
-from typing import Iterator, Optional, Tuple
+from typing import Dict, Iterator, Optional, Tuple
 
 import numpy as np
 
 from . import standard
-from .channels import Channel
+from .channels import Channel, stretches
+from .pieces import Piece
 from .spectra import windows_of
 from .standard import SHORT_LAG, TRANSFORM
 
@@ -26,7 +27,6 @@ FOUND = 12.0  # how many times what chance makes of it, in power, the correlatio
 AGREED = 12.0  # the same for the neighbouring subcarriers of the long training
 NEAR, AROUND = 6, 20  # blocks round a candidate that are no larger, and among which is one much smaller
 SMALLER = 0.6  # than the candidate
-CHUNK = 1 << 10  # blocks that are correlated at once
 QUIET = 0.1  # the share of blocks that are taken to have nothing but noise
 LEAST_NOISE = 1e-4  # of the noise of the antenna with the most, which every antenna is taken to have
 TO_LONG = 192  # samples from a packet's beginning to its first long symbol, behind that one's guard interval
@@ -77,42 +77,50 @@ class Correlation:
 
     def beside_chance(self) -> Tuple[np.ndarray, np.ndarray]:
         """For each block from which a window begins the correlation of all rows, and its power beside what chance makes of it."""
-        weights = 1 / self.noise[:, None]
-        sums = _running(np.sum(weights * self.products, axis=0))
-        energies = _running(self.energies * weights)
-        chance = np.sum(energies[:, :-1] * energies[:, 1:], axis=0) / (WINDOW * BLOCK)
+        weights = 1 / self.noise
+        sums = _running((weights @ self.products.view(float)).view(complex))
+        energies = _running(self.energies * weights[:, None])
+        chance = np.einsum("rb,rb->b", energies[:, :-1], energies[:, 1:]) / (WINDOW * BLOCK)
         least = 1e-9 * max(float(chance.max(initial=0)), 1e-290)
-        return sums, np.abs(sums) ** 2 / np.maximum(chance, least)
+        return sums, (sums.real**2 + sums.imag**2) / np.maximum(chance, least)
 
     def candidates(self) -> Iterator[Candidate]:
         """Where packets may begin, in their order."""
         if self.products.shape[1] < WINDOW:
             return
         sums, power = self.beside_chance()
-        size = np.abs(sums)
-        loud = np.where(power > FOUND, size, 0)
-        padded = np.pad(loud, NEAR)
-        highest = np.max([padded[place : place + size.size] for place in range(2 * NEAR + 1)], axis=0)
-        for block in np.flatnonzero((loud > 0) & (loud == highest)).tolist():
-            behind, before = size[block + WINDOW : block + AROUND + 1], size[max(0, block - AROUND) : max(0, block - WINDOW + 1)]
-            if min(behind.min(initial=np.inf), before.min(initial=np.inf)) < SMALLER * size[block]:
+        loud = np.flatnonzero(power > FOUND)
+        size = np.abs(sums[loud])
+        highest = np.ones(len(loud), bool)  # of those that are near
+        for apart in range(1, min(NEAR, len(loud) - 1) + 1):
+            near = loud[apart:] - loud[:-apart] <= NEAR
+            highest[:-apart] &= ~(near & (size[:-apart] < size[apart:]))
+            highest[apart:] &= ~(near & (size[apart:] < size[:-apart]))
+        for block in loud[highest].tolist():
+            behind, before = sums[block + WINDOW : block + AROUND + 1], sums[max(0, block - AROUND) : max(0, block - WINDOW + 1)]
+            if np.abs(np.concatenate((behind, before))).min(initial=np.inf) < SMALLER * abs(sums[block]):
                 yield Candidate((self.begin + block) * BLOCK, float(np.angle(sums[block])) / (2 * np.pi * SHORT_LAG))
 
 
-def correlation_of(channel: Channel, begin: int, end: int) -> Correlation:
-    """The correlation of a channel's samples from an instant to another one, as far as there are samples."""
-    first, stop = begin // BLOCK, min(-(-end // BLOCK), (channel.stop - BLOCK) // BLOCK)
-    count = max(0, stop - first)
-    products = np.zeros((channel.rows, count), complex)
-    energies = np.zeros((channel.rows, count + 1))
-    for place in range(0, count, CHUNK):
-        blocks = min(CHUNK, count - place)
-        samples = np.ascontiguousarray(channel.read((first + place) * BLOCK, (blocks + 1) * BLOCK))
-        parts = samples.reshape(channel.rows, blocks + 1, BLOCK)
-        products[:, place : place + blocks] = np.einsum("rbi->rb", parts[:, 1:] * parts[:, :-1].conj())
-        halves = parts.view(np.float32)
-        energies[:, place : place + blocks + 1] = np.einsum("rbi,rbi->rb", halves, halves)
-    return Correlation(products, energies, first)
+def correlations_of(piece: Piece, middles: Tuple[int, ...], begin: int, end: int) -> Dict[int, Correlation]:
+    """The correlations of parts of 20 MHz of a piece from an instant to another one, as far as there are samples."""
+    first, stop = begin // BLOCK, min(-(-end // BLOCK), (piece.stop // piece.over - BLOCK) // BLOCK)
+    count, antennas = max(0, stop - first), len(piece.samples)
+    products = {middle: np.zeros((antennas, count), complex) for middle in middles}
+    energies = {middle: np.zeros((antennas, count + 1)) for middle in middles}
+    for number, parts in stretches(piece, middles, first * BLOCK, count * BLOCK, BLOCK, BLOCK):
+        place = number // BLOCK
+        for middle, samples in parts.items():
+            blocks = np.ascontiguousarray(samples).reshape(antennas, samples.shape[1], -1, BLOCK)
+            halves = blocks.view(np.float32)
+            sums = np.einsum("rsbi->rsb", blocks[:, :, 1:] * blocks[:, :, :-1].conj()).reshape(antennas, -1)[:, : count - place]
+            own = np.einsum("rsbi,rsbi->rsb", halves, halves)
+            products[middle][:, place : place + sums.shape[1]] = sums
+            energies[middle][:, place : place + sums.shape[1]] = own[:, :, :-1].reshape(antennas, -1)[:, : count - place]
+            if place + sums.shape[1] == count:
+                last = count - 1 - place
+                energies[middle][:, count] = own[:, last // (own.shape[2] - 1), last % (own.shape[2] - 1) + 1]
+    return {middle: Correlation(products[middle], energies[middle], first) for middle in middles}
 
 
 def noise_of(energies: np.ndarray) -> np.ndarray:

@@ -548,7 +548,8 @@ def _constellation(packets: Sequence[Measured], rate: Rate) -> List[Finding]:
         values = [packet.error(which) for packet in long or packets]
         ends = interval_of(values)
         interval = None if ends is None else (float(decibels(max(ends[0], 1e-12))), float(decibels(ends[1])))
-        finding = Finding(limits.CONSTELLATION, f"{rate}, {which} subcarriers", (-np.inf, float(rate.error_limit)), "dB", float(decibels(float(np.mean(values)))),
-                          interval, len(long), lacking="" if len(long) >= limits.CONSTELLATION.frames else lacking)
+        value = float(decibels(float(np.mean(values))))
+        finding = Finding(limits.CONSTELLATION, f"{rate}, {which} subcarriers", (-np.inf, float(rate.error_limit)), "dB", value, interval, len(long),
+                          lacking="" if len(long) >= limits.CONSTELLATION.frames else lacking)
         made.append(finding if which == "all" else replace(finding, allowed=None, unsure="the limit is of all subcarriers", is_for_show=True))
     return made

@@ -9,7 +9,7 @@ from typing import List, Tuple
 
 from ..air.recording import base_name, open_recording
 from ..air.resampled import fitted
-from ..air.sigmf import DATA, META
+from ..air.sigmf import ARCHIVE, DATA, META
 from ..errors import InputError
 from ..files import naming, refuse_overwriting, writing
 from ..program import Progress, Radio
@@ -24,7 +24,7 @@ OF_RECORDINGS = ("frequency", "reference_ppm", "shift")
 
 
 def words(command: argparse.ArgumentParser) -> None:
-    command.add_argument("captures", metavar="CAPTURE", nargs="+", help="captures (HTCP) and SigMF recordings")
+    command.add_argument("captures", metavar="CAPTURE", nargs="+", help="captures (HTCP), and SigMF recordings and archives")
     command.add_argument("-o", "--output", metavar="FILE", required=True, help="the page (HTML) to write; it has its pictures inside")
     command.add_argument("--theirs", metavar="LINES", action="append", help="another receiver's answers, as judge reads them; once for each capture")
     command.add_argument("--sweep", metavar="FILE", action="append", default=[], help="what mizgaure sweep kept; may come again")
@@ -53,6 +53,7 @@ def run(given: argparse.Namespace) -> None:
     radio = Radio(given.radio, progress=False) if captures else None
     bar = Progress(len(given.captures) + len(given.sweep), "report", unit=" files")
     examined, heard, sweeps = [], [], []
+    inputs = list(captures)
     try:
         for path, lines in zip(captures, given.theirs or [None] * len(captures)):
             assert radio is not None
@@ -60,6 +61,7 @@ def run(given: argparse.Namespace) -> None:
             bar.add(1)
         for path in recordings:
             with open_recording(path) as recording:
+                inputs += [path] if path.endswith(ARCHIVE) else [base_name(path) + META, recording.name]
                 left_out: Counter = Counter()
                 packets = list(measured(fitted(recording, given.shift or 0.0), shown=False, left_out=left_out))
                 if not packets:
@@ -74,7 +76,7 @@ def run(given: argparse.Namespace) -> None:
             bar.add(1)
     finally:
         bar.close()
-    inputs = [*captures, *(base_name(path) + ending for path in recordings for ending in (META, DATA)), *(given.theirs or []), *given.sweep]
+    inputs += [*(given.theirs or []), *given.sweep]
     title = given.title or " and ".join(kind for kind, there in (("Captures", captures), ("recordings", recordings)) if there).capitalize() + ", measured"
     made = page(examined, title, facts(given.command_line, None if radio is None else radio.path, inputs), heard, sweeps)
     with writing(given.output, given.force) as stream:
@@ -83,7 +85,7 @@ def run(given: argparse.Namespace) -> None:
 
 def _sorted(paths: List[str]) -> Tuple[List[str], List[str]]:
     """The recordings among some files, and the captures."""
-    recordings = [path for path in paths if path.endswith((META, DATA)) or os.path.isfile(path + META)]
+    recordings = [path for path in paths if path.endswith((META, DATA, ARCHIVE)) or os.path.isfile(path + META)]
     return recordings, [path for path in paths if path not in recordings]
 
 

@@ -50,6 +50,8 @@ def words(command: argparse.ArgumentParser) -> None:
     command.add_argument("-o", "--output", metavar="RECORDING", required=True,
                          help="the name of a SigMF recording (a .sigmf-meta and a .sigmf-data), or with --raw of a file of samples")
     command.add_argument("--datatype", choices=WRITTEN, default=WRITTEN[0], help="of the samples (default cf32_le)")
+    command.add_argument("--bits", metavar="N", type=int, choices=range(2, 17),
+                         help="round the parts of samples to so many bits, 2 to 16, as a converter does (default: as --datatype holds)")
     command.add_argument("--raw", action="store_true", help="write the samples alone")
     command.add_argument("--guard", choices=("long", "short"), default="long", help="the guard interval of data symbols (default long)")
     command.add_argument("--aggregated", action="store_true", help="say in HT-SIG that the octets are an A-MPDU")
@@ -105,11 +107,12 @@ def run(given: argparse.Namespace) -> None:
     layout = Layout(given.datatype, 20e6 * oversampling, antennas)
     writer = write_recording(given.output, layout, lambda writer: record_packets(counted(read_htsy(source), len(rates), "waveform"), scene, antennas, oversampling, writer),
                              raw=given.raw, frequency=scene.frequency, description=f"Packets of IEEE 802.11n in HT-{'greenfield' if scene.greenfield else 'mixed'} format",
-                             force=given.force)
+                             force=given.force, bits=given.bits)
+    bits = "" if given.bits is None else f" of {given.bits} bits"
     clipped = f", {writer.clipped} parts clipped" if writer.clipped else ""
     packets = "1 packet" if len(rates) == 1 else f"{len(rates)} packets"
     channels = "1 channel" if antennas == 1 else f"{antennas} channels"
-    print(f"{packets}, {channels} of {writer.length} samples at {20 * oversampling} million a second, {given.datatype}{clipped}", file=sys.stderr)
+    print(f"{packets}, {channels} of {writer.length} samples at {20 * oversampling} million a second, {given.datatype}{bits}{clipped}", file=sys.stderr)
 
 
 COMMAND = Command("waveform", "write the packets of a file of symbols as a recording of complex samples", words, run, writes=True)

@@ -10,7 +10,7 @@ use Rattle.ht_map.specs.Constellation.{axes_of}
 use Rattle.ht_metric.specs.Rows.{Row}
 use Rattle.ht_sphere.specs.Coordinates.{q_at, i_at, first_of}
 use Rattle.ht_weigh.specs.Walks.{first_cost}
-use Rattle.ht_weigh.proofs.Leaf.{IsFirst, first_axes, first_is, has_label, nearest_is, far, near}
+use Rattle.ht_weigh.proofs.Leaf.{IsFirst, first_axes, first_costs, first_is, has_label, nearest_is, far, near}
 use Rattle.ht_weigh.proofs.walk.finish.Goals as goal
 use Rattle.ht_weigh.proofs.walk.finish.Goals.{After-from}
 
@@ -56,8 +56,8 @@ nearest : (c : After-from) → c.args.partial + c.from.result
 nearest c =
     let im_fits : SFits w64 c.remainder_of-left.result.im = search rules in
     let re_fits : SFits w64 c.remainder_of-left.result.re = search rules in
-    nearest_is c.args.modulation c.remainder_of-left.result.d c.args.partial c.cost.result c.cost-2.result c.from.result _ _ _ _ _ _
-    (to_z-of_z im_fits) (to_z-of_z re_fits) (q_passed c) (i_passed c) c.cost.ensures.value c.cost-2.ensures.value c.from.ensures
+    nearest_is c.args.modulation c.remainder_of-left.result.d c.args.partial c.cost-2.result c.cost.result c.from.result _ _ _ _ _ _
+    (to_z-of_z im_fits) (to_z-of_z re_fits) (q_passed c) (i_passed c) c.cost-2.ensures.value c.cost.ensures.value c.from.ensures
 
 -- the point, as it is passed
 point_is : (m : Modulation) (x y v w : ℤ) → x ≡ v → y ≡ w → (let p : Point = record { i = x; q = y } in p) ≡ (let r : Point = record { i = v; q = w } in r)
@@ -67,6 +67,22 @@ pub returns-then-nearest-clip : goal.returns-then-nearest-clip
 returns-then-nearest-clip c =
     let at = (goal.at.returns-then-nearest-clip c).After-from in
     far c.args.modulation _ _ _ _ _ _ c.args.partial (first at) c.args.clip _ _ c.requires.ready.within (nearest at) c.if-nearest-clip.true
+
+-- its label, and what its levels cost
+pub lower_others-requires-clause-named : goal.lower_others-requires-clause-named
+lower_others-requires-clause-named c =
+    let at = (goal.at.lower_others-requires-clause-named c).After-from in
+    let im_fits : SFits w64 c.remainder_of-left.result.im = search rules in
+    let re_fits : SFits w64 c.remainder_of-left.result.re = search rules in
+    record {
+      within = c.in-Some.ensures.on.0;
+      i = ap (λ (p : Point). p.i) c.in-Some.ensures.on.1 ∙ i_near at;
+      q = ap (λ (p : Point). p.q) c.in-Some.ensures.on.1 ∙ q_near at;
+      of_i = first_costs (axes_of c.args.modulation).i c.remainder_of-left.result.d c.cost.result _ _ _ (to_z-of_z re_fits) (i_passed at)
+          c.cost.ensures.value;
+      of_q = first_costs (axes_of c.args.modulation).q c.remainder_of-left.result.d c.cost-2.result _ _ _ (to_z-of_z im_fits) (q_passed at)
+          c.cost-2.ensures.value;
+    }
 
 pub returns-in-Some : goal.returns-in-Some
 returns-in-Some c =
