@@ -590,7 +590,7 @@ def _room(size, given: np.ndarray) -> np.ndarray:
     some = 4096 + 8 * given.size
     try:
         return np.empty(some if size is None else size(_at(given), given.size), np.uint8)
-    except (MemoryError, ValueError):
+    except (MemoryError, OverflowError, ValueError):
         return np.empty(some, np.uint8)
 
 
