@@ -36,7 +36,8 @@ together : (r : Rate) (each : ℕ → ℕ) (most : ℕ) → ((j : ℕ) → each 
 together r each most few =
     let IsFew : ℕ → Type 0 = λ c. c ≤ most in
     let all : All IsFew (map each (range_with_len 0 (encoders_of r))) =
-    All-from_recursion IsFew _ (all_map IsFew each (range_with_len 0 (encoders_of r)) (all_range (λ j. IsFew (each j)) 0 (encoders_of r) (λ j within. few j))) in
+    All-from_recursion IsFew _ (all_map IsFew each (range_with_len 0 (encoders_of r))
+    (all_range (λ j. IsFew (each j)) 0 (encoders_of r) (λ j within. few j))) in
     let summed = sum_by-le (λ (c : ℕ). c) most (map each (range_with_len 0 (encoders_of r))) all in
     let count : length (map each (range_with_len 0 (encoders_of r))) ≡ encoders_of r = length-map-range_with_len each 0 (encoders_of r) in
     let two : length (map each (range_with_len 0 (encoders_of r))) ≤ 2 = omega (arith, count, encoders_of-range r) in

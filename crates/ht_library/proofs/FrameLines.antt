@@ -240,7 +240,8 @@ frame-no_frame (suc n) head symbol number present samples =
     let w : ℕ = length present * streams_of head.rate in
     omega (
       arith,
-      frames-append (symbol_jobs head symbol number present (take w samples)) (frame_jobs n head (symbol + 1) (number + length present) present (drop w samples)),
+      frames-append (symbol_jobs head symbol number present (take w samples))
+          (frame_jobs n head (symbol + 1) (number + length present) present (drop w samples)),
       symbol-no_frame head symbol number present (take w samples),
       frame-no_frame n head (symbol + 1) (number + length present) present (drop w samples),
     )

@@ -104,7 +104,12 @@ lines-append : (xs ys : List Item) → lines_in (xs ++ ys) ≡ lines_in xs + lin
 lines-append [] ys = omega arith
 lines-append (Frame head ∷ xs) ys = lines-append xs ys
 lines-append (Job job ∷ xs) ys =
-    omega (arith, length-append (job_line_of job) (job_lines (jobs_of (xs ++ ys))), length-append (job_line_of job) (job_lines (jobs_of xs)), lines-append xs ys)
+    omega (
+      arith,
+      length-append (job_line_of job) (job_lines (jobs_of (xs ++ ys))),
+      length-append (job_line_of job) (job_lines (jobs_of xs)),
+      lines-append xs ys,
+    )
 lines-append (Done ∷ xs) ys = lines-append xs ys
 
 symbol-lines : (head : FrameHead) (symbol number : ℕ) (present : List Present) (samples : List Sample) → head.frame ≤ 65535 → symbol < 20166
@@ -114,14 +119,16 @@ symbol-lines head symbol number [] samples few early stand numbers = omega arith
 symbol-lines head symbol number (p ∷ present) samples few early stand numbers =
     let w : ℕ = 48 * streams_of head.rate in
     let here = line-long head symbol number p samples few early stand.0 numbers in
-    let rest = symbol-lines head symbol (number + 1) present (drop (streams_of head.rate) samples) few early stand.1 (samples_behind (streams_of head.rate) samples numbers) in
+    let rest = symbol-lines head symbol (number + 1) present (drop (streams_of head.rate) samples) few early stand.1
+    (samples_behind (streams_of head.rate) samples numbers) in
     let all : (1 + length present) * w ≡ w + length present * w = omega arith in
     omega (
       arith,
       here,
       rest,
       all,
-      length-append (job_line_of (job_of head symbol number p samples)) (job_lines (jobs_of (symbol_jobs head symbol (number + 1) present (drop (streams_of head.rate) samples)))),
+      length-append (job_line_of (job_of head symbol number p samples))
+          (job_lines (jobs_of (symbol_jobs head symbol (number + 1) present (drop (streams_of head.rate) samples)))),
     )
 
 frame-lines : (n : ℕ) (head : FrameHead) (symbol number : ℕ) (present : List Present) (samples : List Sample) → head.frame ≤ 65535
@@ -132,9 +139,17 @@ frame-lines (suc n) head symbol number present samples few early stand numbers =
     let w : ℕ = length present * streams_of head.rate in
     let each : ℕ = length present * (48 * streams_of head.rate) in
     let here = symbol-lines head symbol number present (take w samples) few (omega (arith, early)) stand (samples_before w samples numbers) in
-    let rest = frame-lines n head (symbol + 1) (number + length present) present (drop w samples) few (omega (arith, early)) stand (samples_behind w samples numbers) in
+    let rest = frame-lines n head (symbol + 1) (number + length present) present (drop w samples) few (omega (arith, early)) stand
+    (samples_behind w samples numbers) in
     let all : (1 + n) * each ≡ each + n * each = omega arith in
-    omega (arith, here, rest, all, lines-append (symbol_jobs head symbol number present (take w samples)) (frame_jobs n head (symbol + 1) (number + length present) present (drop w samples)))
+    omega (
+      arith,
+      here,
+      rest,
+      all,
+      lines-append (symbol_jobs head symbol number present (take w samples))
+          (frame_jobs n head (symbol + 1) (number + length present) present (drop w samples)),
+    )
 
 -- the subcarriers of a frame that are present
 first_stands : (carrier streams : ℕ) (triangles : List (List Leg)) → carrier < 114 → streams ≤ 4 → AreTriangles streams triangles
