@@ -10,3 +10,4 @@ mod Shares
 mod SmallJobs
 mod Suffices
 mod SymbolBits
+mod Weighing
