@@ -10,8 +10,8 @@ The program's own lines, with their distances and sums, are accepted as well, an
 certificates (HTCT), whose records are the data jobs of the capture in their order; its marks aren't looked at here, but by
 `certificates.check`. What is stated is compared: a distance with that of the vector, the sums of a frame with those of the
 reference, and the number of frames with the capture's. The reference is what the proved receiver says of the same capture:
-the library, where it is there, or the program, or kept lines of that. The distances of the other receiver's vectors are computed here, exactly, and that of each
-reference vector is computed too and has to be the one that the program says.
+the library, where it is there, or the program, or kept lines of that. The distances of the other receiver's vectors are
+computed here, exactly, and that of each reference vector is computed too and has to be the one that the program says.
 
 A line that can't be read, a second answer, and one to what the capture doesn't have are told (`LineFault`) and passed over.
 What has no answer is counted. Where a look at what is wrong tells its cause, `Counts.causes` says so.

@@ -99,7 +99,8 @@ def _over_subcarriers(panel, packets: Sequence[Measured], frequency: Optional[fl
     for stream in range(streams):
         colour, marker, line = STREAM_STYLES[stream]
         values = _root_mean([packet.errors[:, :, stream].mean(axis=0) for packet in packets if packet.rate.streams > stream])
-        panel.plot(packets[0].rate.frequencies, values, color=colour, marker=marker, markersize=2.5, linestyle=line, linewidth=0.8, label=f"stream {stream + 1}")
+        panel.plot(packets[0].rate.frequencies, values, color=colour, marker=marker, markersize=2.5, linestyle=line, linewidth=0.8,
+                   label=f"stream {stream + 1}")
     panel.set(xlabel="subcarrier number", ylabel="r.m.s. error (dB)", title="constellation error over subcarriers")
     _limited(panel, packets)
     _legend(panel)

@@ -29,7 +29,8 @@ def numbers(text: str) -> Tuple[int, ...]:
 
 
 def words(command: argparse.ArgumentParser) -> None:
-    command.add_argument("what", metavar="WHAT", choices=(*TESTS, JUDGE), help="sensitivity, adjacent or nonadjacent, to write recordings, or judge, to judge answers")
+    command.add_argument("what", metavar="WHAT", choices=(*TESTS, JUDGE),
+                         help="sensitivity, adjacent or nonadjacent, to write recordings, or judge, to judge answers")
     command.add_argument("folder", metavar="FOLDER",
                          help="where the recordings are written, and where NAME.pcap, .pcapng or .lines is a device's answer to NAME")
     command.add_argument("--bandwidth", type=int, choices=(20, 40), help="in MHz (default 20)")
