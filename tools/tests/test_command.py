@@ -249,7 +249,8 @@ def test_installed_and_removed(radio, tmp_path):
     run = subprocess.run([str(prefix / "bin" / "mizgaure"), "answers", str(Z)], env={**environment, "MIZGAURE_PYTHON": sys.executable},
                          capture_output=True, check=False)
     assert run.returncode == 0 and run.stdout.endswith(b"end 1 frames\n")
-    assert {path.name for path in prefix.rglob("*.1")} == {"radio.1", "mizgaure.1"} and len(list(prefix.rglob("*radio*"))) == 6 + (prefix / "lib" / "mizgaure" / "x86-64-v3").exists()
+    newer = (prefix / "lib" / "mizgaure" / "x86-64-v3").exists()
+    assert {path.name for path in prefix.rglob("*.1")} == {"radio.1", "mizgaure.1"} and len(list(prefix.rglob("*radio*"))) == 6 + newer
     installed = str(prefix / "bin" / "radio")
     done = subprocess.run([installed, "detect"], stdin=Z.open("rb"), env=environment, capture_output=True, check=False)
     assert done.returncode == 0 and done.stdout.endswith(b"end 1 frames\n")

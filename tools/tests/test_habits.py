@@ -134,7 +134,8 @@ def test_what_is_written(here, everything, monkeypatch, name):
         made = files_in(everything)
         assert len(made) > len(before)
         done = here(*words)
-        assert done.returncode == 2 and re.match(rb"mizgaure: \S+ is there already, and only --force overwrites it\n", done.stderr) and files_in(everything) == made
+        assert done.returncode == 2 and re.match(rb"mizgaure: \S+ is there already, and only --force overwrites it\n", done.stderr)
+        assert files_in(everything) == made
         assert here(*words, "--force").returncode == 0 and set(files_in(everything)) == set(made)
         if standard:
             done = here(*words_of(name, option, "-"))

@@ -168,7 +168,8 @@ def test_the_spectrum_of_noise_has_its_density():
         panel = spectrum(recording_of(octets_in(parts[0] + 1j * parts[1]), Layout("cf32_le", 20e6, 1), carrier), 0).axes[0]
         line = panel.lines[0]
         assert 10 * np.log10(np.mean(10 ** (line.get_ydata() / 10))) == pytest.approx(-40 - 10 * np.log10(20e6), abs=0.1)
-        assert line.get_xdata()[256] == (5180 if carrier else 0) and panel.get_xlabel() == label and panel.get_ylabel() == "power density (dB of full scale per Hz)"
+        assert line.get_xdata()[256] == (5180 if carrier else 0)
+        assert (panel.get_xlabel(), panel.get_ylabel()) == (label, "power density (dB of full scale per Hz)")
 
 
 def test_the_data_behind_pictures_of_a_frame():

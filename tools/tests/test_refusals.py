@@ -89,7 +89,8 @@ def test_a_mistake_of_the_tools_is_a_line_too(monkeypatch, capsys):
 
 
 @pytest.mark.parametrize("text", [b"\x00", b"{}", b"[1]", b'{"sweep": null}', b'{"sweep": {"snr": [1], "mcs": "9"}, "coded": true, "points": [{}]}',
-                                  b'{"sweep": {"snr": [1]}, "coded": true, "points": [{"bits": [[1, 0, 1]], "symbols": [], "octet_bits": [], "frames": [0, 1]}]}'])
+                                  b'{"sweep": {"snr": [1]}, "coded": true, "points": [{"bits": [[1, 0, 1]], "symbols": [], "octet_bits": [], '
+                                  b'"frames": [0, 1]}]}'])
 def test_a_bad_sweep_is_named(text, tmp_path, monkeypatch, capsys):
     pytest.importorskip("matplotlib")
     monkeypatch.chdir(tmp_path)

@@ -219,6 +219,7 @@ def test_a_report_that_can_be_traced(here, tmp_path, radio):
         assert test in page.text
     assert "no verdict: 1 of 20 frames" in page.text and "signature" in page.text and "noise of a subcarrier" in page.text
     assert "0 of 6 pass; 6 without a verdict (spectral mask, spectral flatness, " in page.text
+    assert "instants of 1 antenna, cf32_le" in page.text
     assert "wrong by at most 1 ppm" in page.text and "Figure 9: error rates" in page.text and "from memory of the standard" in page.text
     assert "device under test" in page.text and page.text.index("spectral mask") < page.text.index("Frames")  # what is signed comes first
     assert '<span class="open">' in (tmp_path / "it.html").read_text()
@@ -298,8 +299,10 @@ def test_what_the_program_says_of_itself(tmp_path):
 
 def test_what_a_recording_says_of_itself(tmp_path):
     """Who made it, with what and when, where its metadata have that; what isn't text is passed over."""
-    meta = {"global": {"core:datatype": "cf32_le", "core:version": "1.0.0", "core:author": "A. Tester", "core:hw": "a receiver and a cable", "core:recorder": 7},
+    meta = {"global": {"core:datatype": "cf32_le", "core:version": "1.0.0", "core:author": "A. Tester", "core:hw": "a receiver and a cable",
+                       "core:recorder": 7},
             "captures": [{"core:sample_start": 0, "core:datetime": "2026-01-31T12:00:00Z"}, {"core:sample_start": 9}]}
     (tmp_path / "it.sigmf-meta").write_text(json.dumps(meta))
-    assert recorded(str(tmp_path / "it.sigmf-meta")) == [("recorded by", "A. Tester"), ("hardware", "a receiver and a cable"), ("taken", "2026-01-31T12:00:00Z")]
+    said = [("recorded by", "A. Tester"), ("hardware", "a receiver and a cable"), ("taken", "2026-01-31T12:00:00Z")]
+    assert recorded(str(tmp_path / "it.sigmf-meta")) == said
     assert recorded(str(tmp_path / "none.sigmf-meta")) == []

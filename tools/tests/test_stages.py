@@ -15,7 +15,8 @@ from conftest import TOP, VECTORS
 from mizgaure import Rate, read_answers, read_htsy, stages
 from mizgaure.chain import encode, kept_places, steps, symbol_landing
 from mizgaure.rates import labels_of
-from mizgaure.stage_files import BITS, LABELS, LIBRARY, POINTS, PROGRAM, SAMPLES, TOOLS, Stage, Staged, arrays_of, write_mat, write_stage_rows, write_text, write_words
+from mizgaure.stage_files import (BITS, LABELS, LIBRARY, POINTS, PROGRAM, SAMPLES, TOOLS, Stage, Staged, arrays_of, write_mat, write_stage_rows,
+                                  write_text, write_words)
 
 proved = pytest.mark.skipif(stages.library is None, reason="library/build hasn't built the library")
 LEGACY = VECTORS / "legacy"
@@ -122,7 +123,8 @@ def test_clause_18_of_other_programs():
 
 
 @proved
-@pytest.mark.parametrize("pattern, kept", [(0, [0, 1, 2, 3, 4, 5]), (1, [0, 1, 2, 4, 5, 6]), (2, [0, 1, 2, 5, 6, 7, 8, 11]), (3, [0, 1, 2, 5, 6, 9, 10, 11, 12])])
+@pytest.mark.parametrize("pattern, kept", [(0, [0, 1, 2, 3, 4, 5]), (1, [0, 1, 2, 4, 5, 6]), (2, [0, 1, 2, 5, 6, 7, 8, 11]),
+                                           (3, [0, 1, 2, 5, 6, 9, 10, 11, 12])])
 def test_what_is_kept(pattern, kept):
     """Clauses 18.3.5.6 and 20.3.11.6: A0 B0 A1 at 2/3, A0 B0 A1 B2 at 3/4, A0 B0 A1 B2 A3 B4 at 5/6."""
     assert stages.kept_places(pattern, 100)[: len(kept)].tolist() == kept
@@ -280,7 +282,8 @@ def test_erasures_and_clause_18_of_the_program(radio):
 def test_the_page_has_all_stages():
     page = (TOP / "docs" / "CHAIN.md").read_text()
     for names in (SENT, RECEIVED):
-        assert any(names == {cell.split("`")[1] for cell in row.split("|")[2].split(",")} for row in page.splitlines() if row.startswith("| frames (") or row.startswith("| captures ("))
+        assert any(names == {cell.split("`")[1] for cell in row.split("|")[2].split(",")} for row in page.splitlines()
+                   if row.startswith(("| frames (", "| captures (")))
 
 
 def test_without_the_library(radio, tmp_path):
@@ -293,7 +296,8 @@ def test_without_the_library(radio, tmp_path):
 
     def stage(program, *words):
         environment = {**os.environ, "MIZGAURE_LIBRARY": str(none), "MIZGAURE_RADIO": program, "PYTHONPATH": str(TOP / "tools" / "src")}
-        return subprocess.run([sys.executable, "-m", "mizgaure", "stages", *map(str, words)], env=environment, cwd=tmp_path, capture_output=True, text=True, check=False)
+        return subprocess.run([sys.executable, "-m", "mizgaure", "stages", *map(str, words)], env=environment, cwd=tmp_path, capture_output=True,
+                              text=True, check=False)
 
     done = stage(radio.path, VECTORS / "worked" / "a5.httx")
     left_out = "scrambled, coded, punctured, parsed, interleaved: the library alone gives them (docs/LIBRARY.md), and these values are the program's\n"

@@ -88,8 +88,8 @@ def test_flatness_of_a_slope(rate):
         assert outcome.value == pytest.approx(slope / 2 - mean, abs=0.05) and outcome.where.startswith(f"subcarrier {edge} of") and outcome.verdict == verdict
 
 
-@pytest.mark.parametrize("bandwidth, leakage, carrier, verdict", [(20, -14.7, 0, "fail"), (20, -15.3, 0, "pass"), (20, -14.7, 3, "fail"), (20, -15.3, -3, "pass"),
-                                                                  (40, -19.7, 0, "fail"), (40, -20.3, 0, "pass")])
+@pytest.mark.parametrize("bandwidth, leakage, carrier, verdict", [
+    (20, -14.7, 0, "fail"), (20, -15.3, 0, "pass"), (20, -14.7, 3, "fail"), (20, -15.3, -3, "pass"), (40, -19.7, 0, "fail"), (40, -20.3, 0, "pass")])
 def test_leakage(bandwidth, leakage, carrier, verdict):
     outcome = found(faulty(Rate(bandwidth, 0), 6, leakage=leakage, carrier=carrier, length=30), "centre frequency leakage")
     assert outcome.value == pytest.approx(leakage, abs=0.1) and outcome.verdict == verdict
@@ -242,10 +242,13 @@ def test_what_is_left_out_is_counted(here):
         parts.append(open("part", "rb").read())
     whole = b"".join(parts)
     open("all", "wb").write(whole[: len(whole) - 16 * 1000])  # the last packet is cut off
-    done = here("verdict", "all", "--datatype", "cf32_le", "--channels", 2, "--frequency", "5.18e9")
+    done = here("verdict", "all", "--datatype", "cf32_le", "--channels", 2, "--frequency", "5.18e9", "--json", "it.jsonl", "--csv", "it.csv")
     lines = done.stdout.decode().splitlines()
     assert done.returncode == 0 and lines[0].endswith(": 5 packets at 5180 MHz, 20 million samples a second"), done
     assert lines[1] == "4 packets aren't measured: 1 cut off, 3 with STBC, whose points are known over two chains together alone"
+    counts = json.loads(open("it.jsonl").read().splitlines()[-1])
+    assert counts == {"counts": {"packets": 5, "unmeasured": {"cut off": 1, "with STBC, whose points are known over two chains together alone": 3}}}
+    assert len(open("it.csv").read().splitlines()) == 1 + len(lines) - 2  # tests alone
 
 
 def test_short_frames_are_named():
@@ -275,7 +278,9 @@ def test_the_mask_by_hand():
     """The numbers of the page at places between and at its corners."""
     at = lambda *megahertz, **words: limits.mask_at(np.array(megahertz) * 1e6, words.get("bandwidth", 20), words.get("band", "2.4 GHz")).tolist()  # noqa: E731
     assert at(0, 9, 10, 11, 15.5, 20, 25, 30, 40) == [0, 0, -10, -20, -24, -28, -36.5, -45, -45] and at(-25, -35) == [-36.5, -45]
-    assert at(25, 30, 50, band="5 GHz") == [-36.5, -40, -40] and at(19, 20, 21, 30.5, 40, 50, 60, bandwidth=40) == [0, -10, -20, -24, -28, -36.5, -45]
+    assert at(20, 25, 30, 50, band="5 GHz") == [-28, -34, -40, -40]
+    assert at(19, 20, 21, 30.5, 40, 50, 60, bandwidth=40) == [0, -10, -20, -24, -28, -36.5, -45]
+    assert at(40, 50, 60, 70, bandwidth=40, band="5 GHz") == [-28, -34, -40, -40]
 
 
 def test_the_density_that_is_0_dbr():
@@ -319,7 +324,8 @@ def test_the_command(here, tmp_path):
     pattern = r".*, clause 20\.3\.20[\d.]*: -?[\d.]+ (dB|ppm)( at .*)? \(95 %: .* to .*\), limit .*; 3 of (2|20) frames asked for.*: (pass|no verdict: .*)"
     assert all(re.fullmatch(pattern, line) for line in lines[1:])
     assert lines[6].endswith("; 3 of 20 frames asked for: no verdict: 3 of 20 frames") and "12.0" in lines[3]
-    records = [json.loads(line) for line in (tmp_path / "verdict.jsonl").read_text().splitlines()]
+    *records, counts = [json.loads(line) for line in (tmp_path / "verdict.jsonl").read_text().splitlines()]
+    assert counts == {"counts": {"packets": 3, "unmeasured": {}}}
     assert [record["test"] for record in records] == tests and records[2]["verdict"] == "pass" and records[5]["frames_asked"] == 20
     assert here("verdict", "air", "--reference-ppm", "0.5", "--complete").returncode == 1
     assert here("verdict", "air", "--reference-ppm", "0.5", "--frequency", "2e9").returncode == 1  # 31 ppm there
@@ -340,15 +346,17 @@ def test_faults_that_waveform_refuses(here):
     write_htsy("both.htsy", [*frames_of(Rate(20, 7), 1, 100), *frames_of(Rate(40, 7), 1, 100)])
     gains = "gains are those of subcarriers from -58 to 58, ascending, and -40 to 40 dB"
     asks = "asks for %d million samples a second (--rate), and not %d"
+    far = "a neighbour in a nonadjacent channel of %d MHz " + asks
     for words, said in ((["sent.htsy", "--clock", "201"], "the symbol clock is off by 201 ppm, and has to be by -200 to 200"),
                         (["sent.htsy", "--leakage", "0"], "the leakage is 0 dB of the overall power, and has to be below 0"),
-                        (["sent.htsy", "--filter", "20"], "a filter is beyond the channel, which 20 million samples a second don't show beside packets of 20 MHz"),
+                        (["sent.htsy", "--filter", "20"],
+                         "a filter is beyond the channel, which 20 million samples a second don't show beside packets of 20 MHz"),
                         (["sent.htsy", "--gains", "3:1,2:0"], gains), (["sent.htsy", "--gains", "59:1"], gains), (["sent.htsy", "--gains", "1:nan"], gains),
                         (["sent.htsy", "--nonadjacent"], "a nonadjacent channel is that of a neighbour (--neighbour)"),
                         (["sent.htsy", "--neighbour", "0"], "a neighbour in the next channel of 20 MHz " + asks % (40, 20)),
-                        (["sent.htsy", "--neighbour", "0", "--nonadjacent", "--rate", "80"], "a neighbour in a nonadjacent channel of 20 MHz " + asks % (100, 80)),
+                        (["sent.htsy", "--neighbour", "0", "--nonadjacent", "--rate", "80"], far % (20, 100, 80)),
                         (["wide.htsy", "--neighbour", "0", "--rate", "100"], "a neighbour in the next channel of 40 MHz " + asks % (120, 100)),
-                        (["wide.htsy", "--neighbour", "0", "--nonadjacent", "--rate", "120"], "a neighbour in a nonadjacent channel of 40 MHz " + asks % (200, 120)),
+                        (["wide.htsy", "--neighbour", "0", "--nonadjacent", "--rate", "120"], far % (40, 200, 120)),
                         (["both.htsy", "--neighbour", "0", "--rate", "120"], "a neighbour stands beside packets of 20 MHz or of 40, and not of both")):
         done = here("waveform", *words, "-o", "air")
         assert (done.returncode, done.stderr.decode()) == (2, f"mizgaure: {said}\n")
@@ -397,8 +405,8 @@ def test_packets_of_two_channels_are_two_transmitters():
     packets = list(measured(recording_of(octets_in(whole), Layout("cf32_le", 40e6, 1), CARRIER), shown=False))
     found = [each for each in findings(packets, CARRIER, 0.1, 40e6) if each.limit.test != "constellation error"]
     half = " in one half of 40 MHz"
-    assert [each.subject for each in found] == [f"20 MHz at {middle} MHz{more}"
-                                                for middle in ("-10", "+10") for more in (", distance below it", "", "", "", "", half)]
+    subjects = [f"20 MHz at {middle} MHz{more}" for middle in ("-10", "+10") for more in (", distance below it", "", "", "", "", half)]
+    assert [each.subject for each in found] == subjects
     assert len(packets) == 8 and [each.limit.test for each in found if each.verdict == "fail"] == ["spectral mask"] * 2
     assert all(abs(float(each.where.split()[0])) > 29 and each.value > -14 for each in found if each.limit.test == "spectral mask")
 

@@ -158,7 +158,8 @@ def parser() -> argparse.ArgumentParser:
     commands = top.add_subparsers(metavar="COMMAND", required=True)
     for command in COMMANDS:
         text = f"{command.text[0].upper()}{command.text[1:]}. {NOT_PROVED}"
-        made = commands.add_parser(command.name, help=command.text, description=text, epilog=f"{EXAMPLE} {EXAMPLES.get(command.name, command.name)}", formatter_class=_Help)
+        example = f"{EXAMPLE} {EXAMPLES.get(command.name, command.name)}"
+        made = commands.add_parser(command.name, help=command.text, description=text, epilog=example, formatter_class=_Help)
         made.set_defaults(run=command.run)
         if command.radio:
             made.add_argument("--radio", metavar="PROGRAM", help="the program radio (default: $MIZGAURE_RADIO, or that of the clone)")

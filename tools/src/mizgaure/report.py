@@ -174,7 +174,8 @@ def examine_recording(recording: Recording, name: str, packets: Sequence[Measure
     rate = recording.layout.rate
     found = findings(packets, frequency, reference, rate)
     offsets, noises = [packet.offset / 1e3 for packet in packets], [packet.noise for packet in packets]
-    facts = [("samples", f"{recording.length:,} instants of {recording.layout.channels} antennas, {recording.layout.datatype}, "
+    antennas = "1 antenna" if recording.layout.channels == 1 else f"{recording.layout.channels} antennas"
+    facts = [("samples", f"{recording.length:,} instants of {antennas}, {recording.layout.datatype}, "
                          f"{rate / 1e6:g} million a second, {recording.seconds(recording.length):.6f} s"),
              ("carrier", "not known" if frequency is None else f"{frequency / 1e6:g} MHz"),
              ("packets", f"{len(packets)} measured" + (f"; {unmeasured}" if unmeasured else "")),
@@ -430,8 +431,8 @@ def _finding_row(finding: Finding) -> List[str]:
 
 def _sweep_parts(name: str, found: Sweep, figures: _Figures) -> List[str]:
     matplotlib_of()
-    picture = "error rates over the signal-to-noise ratio", _png(error_curves(found))
-    return [f"<h2>{_text(name)}</h2>", f"<p>{_text(found.title())}</p>", *figures.beside([picture])]
+    curves = ("error rates over the signal-to-noise ratio", _png(error_curves(found)))
+    return [f"<h2>{_text(name)}</h2>", f"<p>{_text(found.title())}</p>", *figures.beside([curves])]
 
 
 def _judged(judgement: Judgement) -> str:

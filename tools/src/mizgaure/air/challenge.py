@@ -212,9 +212,9 @@ class Outcome:
         """The same as a record."""
         low, high = self.error_rate.interval
         known = self.right is not None
-        made = self.challenge
-        return {**asdict(made), "name": made.name, "clause": made.limit.clause, "level": made.level, "right": self.right, "other": self.other,
-                "per": self.error_rate.value if known else None, "per_low": low if known else None, "per_high": high if known else None,
+        return {**asdict(self.challenge), "name": self.challenge.name, "clause": self.challenge.limit.clause, "level": self.challenge.level,
+                "right": self.right, "other": self.other, "per": self.error_rate.value if known else None,
+                "per_low": low if known else None, "per_high": high if known else None,
                 "limit": MOST_WRONG, "verdict": self.verdict}
 
 

@@ -49,10 +49,12 @@ class Limit:
     checked: str = NOT_CHECKED
 
 
-# Offsets from the channel's middle in MHz at 20 MHz, and dBr there, between which the mask is straight; at 40 MHz by `MASK_WIDE`.
-MASK = ((9.0, 0.0), (11.0, -20.0), (20.0, -28.0), (30.0, -45.0))
-MASK_WIDE = ((19.0, 0.0), (21.0, -20.0), (40.0, -28.0), (60.0, -45.0))
-FLOOR = {"2.4 GHz": -45.0, "5 GHz": -40.0}  # dBr, below which the mask doesn't go
+# Offsets from the channel's middle in MHz at 20 MHz, and dBr there, between which the mask is straight; at 40 MHz by `MASK_WIDE`. From the last
+# offset on the mask is level, at `FLOOR`.
+MASK = ((9.0, 0.0), (11.0, -20.0), (20.0, -28.0))
+MASK_WIDE = ((19.0, 0.0), (21.0, -20.0), (40.0, -28.0))
+LEVEL_FROM = {20: 30.0, 40: 60.0}  # MHz
+FLOOR = {"2.4 GHz": -45.0, "5 GHz": -40.0}  # dBr
 FLAT = {20: (16, 28), 40: (42, 58)}  # the last inner subcarrier and the last one
 INNER, OUTER = (-4.0, 4.0), (-6.0, 4.0)  # dB beside the mean of the inner subcarriers
 TOLERANCE = {"2.4 GHz": 25.0, "5 GHz": 20.0}  # parts per million
@@ -88,13 +90,13 @@ def band_of(frequency: Optional[float]) -> Optional[str]:
 
 def mask_at(offsets: np.ndarray, bandwidth: int, band: Optional[str]) -> np.ndarray:
     """The mask in dBr at offsets from the channel's middle in Hz; that of the stricter band where none is known."""
-    places, levels = zip(*(MASK if bandwidth == 20 else MASK_WIDE))
-    return np.maximum(np.interp(np.abs(offsets) / 1e6, places, levels), FLOOR[band or "2.4 GHz"])
+    places, levels = zip(*(MASK if bandwidth == 20 else MASK_WIDE), (LEVEL_FROM[bandwidth], FLOOR[band or "2.4 GHz"]))
+    return np.interp(np.abs(offsets) / 1e6, places, levels)
 
 
 def reach_of(bandwidth: int) -> float:
     """The offset in Hz from which on the mask is level, and up to which a recording has to show it."""
-    return 1e6 * (MASK if bandwidth == 20 else MASK_WIDE)[-1][0]
+    return 1e6 * LEVEL_FROM[bandwidth]
 
 
 def flatness_limits(numbers: np.ndarray, bandwidth: int) -> Tuple[np.ndarray, np.ndarray, np.ndarray]:

@@ -7,6 +7,7 @@ import io
 import sys
 from contextlib import contextmanager
 from dataclasses import dataclass
+from itertools import chain
 from pathlib import Path
 from typing import Any, BinaryIO, Callable, Iterable, Iterator, List, Mapping, Optional, Sequence, Tuple, TypeVar, Union, cast
 
@@ -198,12 +199,13 @@ def refuse_tables(given: argparse.Namespace) -> None:
             refuse_overwriting(path, given.force)
 
 
-def write_tables(given: argparse.Namespace, records: Union[Sequence[Mapping[str, Any]], Records], columns: Sequence[str]) -> None:
-    """Write the tables that are asked for."""
+def write_tables(given: argparse.Namespace, records: Union[Sequence[Mapping[str, Any]], Records], columns: Sequence[str],
+                 behind: Sequence[Mapping[str, Any]] = ()) -> None:
+    """Write the tables that are asked for; ``behind`` stands behind the records as JSON alone."""
     if given.csv:
         write_csv(given.csv, records, columns, given.force)
     if given.json:
-        write_json_lines(given.json, records, given.force)
+        write_json_lines(given.json, chain(records, behind), given.force)
 
 
 def setting_of(given: argparse.Namespace, frames: int) -> Setting:

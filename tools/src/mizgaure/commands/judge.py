@@ -42,8 +42,8 @@ def run(given: argparse.Namespace) -> int:
     lines: List[str] = []
     with ExitStack() as stack:
         stream = stack.enter_context(writing(given.json, given.force)) if given.json else None
-        judging = judged_soft if isinstance(counts, SoftCounts) else judged
-        for verdict in judging(given.capture, given.answers, counts, reference=given.reference, radio=radio):
+        verdicts = judged_soft if isinstance(counts, SoftCounts) else judged
+        for verdict in verdicts(given.capture, given.answers, counts, reference=given.reference, radio=radio):
             if stream is not None:
                 write_verdict(stream, verdict)
             if isinstance(verdict, (FrameVerdict, SoftVerdict)) and verdict.verdict != SAME and len(lines) < given.list:

@@ -26,7 +26,8 @@ def words(command: argparse.ArgumentParser) -> None:
     command.add_argument("--answers", metavar="LINES", help="kept lines of radio rx, in place of running it")
     command.add_argument("--aggregated", choices=("yes", "no", "guess"), default="guess",
                          help="whether the frames are A-MPDUs (default: guess, by FCS and delimiters)")
-    command.add_argument("-o", "--output", metavar="FILE", help="write the MPDUs with radiotap headers (pcap, or pcapng where it ends in .pcapng), as Wireshark reads them")
+    command.add_argument("-o", "--output", metavar="FILE",
+                         help="write the MPDUs with radiotap headers (pcap, or pcapng where it ends in .pcapng), as Wireshark reads them")
     add_tables(command)
 
 

@@ -48,7 +48,8 @@ def run(given: argparse.Namespace) -> int:
         print(unmeasured(left_out))
     for finding in found:
         print(finding)
-    write_tables(given, [finding.record() for finding in found], COLUMNS)
+    counts = {"counts": {"packets": len(packets), "unmeasured": dict(sorted(left_out.items()))}}
+    write_tables(given, [finding.record() for finding in found], COLUMNS, [counts])
     return status_of_mistakes(left_out) or status_of(found, given.complete)
 
 
