@@ -114,6 +114,7 @@ def test_every_form_gives_the_same_capture(here, sent, tmp_path):
         assert done.returncode == 0 and done.stderr == b"", (words, done.stderr)
         assert (tmp_path / f"{number}.htcp").read_bytes() == expected, words
     assert number >= 15
+    pytest.importorskip("h5py")  # without which a .mat of version 7.3 wasn't among them
 
 
 def without_numbers(lines):
