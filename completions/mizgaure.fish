@@ -197,7 +197,7 @@ complete -c mizgaure -n '__fish_seen_subcommand_from receive' -l from -x -d 'pac
 complete -c mizgaure -n '__fish_seen_subcommand_from receive' -l to -x -d 'packets before this time'
 complete -c mizgaure -n '__fish_seen_subcommand_from receive' -l packets -x -d 'no more than so many packets'
 complete -c mizgaure -n '__fish_seen_subcommand_from receive' -s o -l output -r -d 'write the MPDUs with radiotap headers (pcap, or pcapng where it ends in .pcapng), as Wireshark reads them'
-complete -c mizgaure -n '__fish_seen_subcommand_from receive' -l soft -d 'decode packets in HT-mixed format by soft decisions, and say what they cost'
+complete -c mizgaure -n '__fish_seen_subcommand_from receive' -l soft -d 'decode HT packets by soft decisions, and say what they cost'
 complete -c mizgaure -n '__fish_seen_subcommand_from receive' -l full-scale -x -d 'the power at an antenna whose samples have mean power 1; levels are in dBm then'
 complete -c mizgaure -n '__fish_seen_subcommand_from receive' -l sent -x -d 'count right, wrong and lost packets of so many that were sent'
 complete -c mizgaure -n '__fish_seen_subcommand_from receive' -l truth -r -d 'count them against these frames (HTTX), which were sent'

@@ -284,7 +284,7 @@ case $command in
       '--to[packets before this time]:seconds:' \
       '--packets[no more than so many packets]:n:' \
       {-o,--output}'[write the MPDUs with radiotap headers (pcap, or pcapng where it ends in .pcapng), as Wireshark reads them]:file:_files' \
-      '--soft[decode packets in HT-mixed format by soft decisions, and say what they cost]' \
+      '--soft[decode HT packets by soft decisions, and say what they cost]' \
       '--full-scale[the power at an antenna whose samples have mean power 1; levels are in dBm then]:dbm:' \
       '--sent[count right, wrong and lost packets of so many that were sent]:n:' \
       '--truth[count them against these frames (HTTX), which were sent]:file:_files' \

@@ -38,7 +38,7 @@ extern "C" {
 #endif
 
 /* The version of these calls, which mizgaure_version() answers too. Until it is 1000 a call may change from version to version. */
-#define MIZGAURE_VERSION 2
+#define MIZGAURE_VERSION 3
 
 enum mizgaure_fault {
     MIZGAURE_DONE = 0,
@@ -241,6 +241,13 @@ uint32_t mizgaure_rx(const uint8_t *capture, size_t n, uint8_t *text, size_t tex
 uint32_t mizgaure_soft(const uint8_t *capture, size_t n, uint8_t *text, size_t text_n, uint64_t *size, mizgaure_refusal *refusal);
 uint32_t mizgaure_lrx(const uint8_t *capture, size_t n, uint8_t *text, size_t text_n, uint64_t *size, mizgaure_refusal *refusal);
 uint32_t mizgaure_many(const uint8_t *bundle, size_t n, uint8_t *text, size_t text_n, uint64_t *size, mizgaure_refusal *refusal);
+
+/* A size of `text` with which these calls never answer NO_ROOM for the capture, so that none is made twice. detect: 6 * n. rx and soft: 32
+ * and half of n, but at a capture of version 2 the less of 17 * n and 131177 for each frame. Only the version and the number of frames
+ * are read, so any octets may be given. UINT64_MAX where the size has more than 64 bits, and of rx and soft from 2^59 octets on. */
+uint64_t mizgaure_detect_size(const uint8_t *capture, size_t n);
+uint64_t mizgaure_rx_size(const uint8_t *capture, size_t n);
+uint64_t mizgaure_soft_size(const uint8_t *capture, size_t n);
 
 /* The file of certificates (HTCT) of the command certify for a capture, and the text of the command check for such a file. As
  * above. */

@@ -131,9 +131,17 @@ inline std::uint32_t legacy_decode_frame(std::uint8_t r, std::span<const std::ui
     return differences;
 }
 
+// Room for the output of a call: what suffices for the texts of captures, else some, which is mended once the size is known.
+template <auto call> std::size_t room(std::span<const std::uint8_t> input) {
+    if constexpr (call == mizgaure_detect) return mizgaure_detect_size(input.data(), input.size());
+    if constexpr (call == mizgaure_rx) return mizgaure_rx_size(input.data(), input.size());
+    if constexpr (call == mizgaure_soft) return mizgaure_soft_size(input.data(), input.size());
+    return 4096 + 2 * input.size();
+}
+
 // The whole output of one of the calls that take an input and give a text or a file, as written<mizgaure_rx>(capture).
 template <auto call> std::string written(std::span<const std::uint8_t> input) {
-    std::string text(4096 + 2 * input.size(), '\0');
+    std::string text(room<call>(input), '\0');
     std::uint64_t size = 0;
     mizgaure_refusal refusal;
     for (;;) {

@@ -334,6 +334,14 @@ static void whole_inputs(void) {
     EXPECT(mizgaure_rx(capture, n, text, sizeof text, &size, &refusal) == MIZGAURE_DONE);
     EXPECT(size == strlen(wanted) && !memcmp(text, wanted, size) && kept(text + size, sizeof text - size, 0x55));
     EXPECT(refusal.offset == 77 && refusal.kind == 77);
+    /* With the size that suffices no call answers NO_ROOM; that of a capture of version 2 is said by its number of frames too. */
+    EXPECT(mizgaure_detect_size(capture, n) == 6 * n && mizgaure_rx_size(capture, n) == 32 + n / 2 && mizgaure_soft_size(capture, n) == 32 + n / 2);
+    EXPECT(mizgaure_rx(capture, n, text, mizgaure_rx_size(capture, n), &size, &refusal) == MIZGAURE_DONE);
+    EXPECT(mizgaure_soft(capture, n, text, mizgaure_soft_size(capture, n), &size, &refusal) == MIZGAURE_DONE);
+    EXPECT(mizgaure_detect(capture, n, text, mizgaure_detect_size(capture, n), &size, &refusal) == MIZGAURE_DONE);
+    memcpy(text, capture, 7), text[4] = 2;
+    EXPECT(mizgaure_rx_size(text, n) == 32 + 17 * n && mizgaure_rx_size(text, sizeof text) == 32 + 131177);
+    EXPECT(mizgaure_soft_size(text, 6) == 32 + 17 * 6 && mizgaure_rx_size(text, 4) == 34 && mizgaure_rx_size(text, 0) == 32);
     size = 77, memset(text, 0x55, sizeof text);
     EXPECT(mizgaure_rx(capture, n, text, strlen(wanted) - 1, &size, &refusal) == MIZGAURE_NO_ROOM && size == strlen(wanted));
     size = 77;

@@ -21,12 +21,13 @@ class Parameter(NamedTuple):
 
 
 def calls(header):
-    """The calls of the header's text, each name with its parameters; a pointer with a size_t behind it is an array of that length."""
+    """The calls of the header's text, each name with the type of its answer and its parameters; a pointer with a size_t behind it is an
+    array of that length."""
     bare = re.sub(r"/\*.*?\*/", "", header, flags=re.DOTALL)
-    for name, inside in re.findall(r"^uint32_t mizgaure_(\w+)\(([^)]*)\);", bare, re.MULTILINE):
+    for answer, name, inside in re.findall(r"^(uint32_t|uint64_t) mizgaure_(\w+)\(([^)]*)\);", bare, re.MULTILINE):
         parts = [part.split() for part in inside.replace("*", "* ").split(",")] if inside != "void" else []
         pairs = [(" ".join(words[:-1]), words[-1]) for words in parts] + [("", "")]
-        yield name, [Parameter(kind, word, after[1] if kind.endswith("*") and after[0] == "size_t" else "") for (kind, word), after in zip(pairs, pairs[1:])]
+        yield name, answer, [Parameter(kind, word, after[1] if kind.endswith("*") and after[0] == "size_t" else "") for (kind, word), after in zip(pairs, pairs[1:])]
 
 
 HEAD = r"""#define _DEFAULT_SOURCE
@@ -54,13 +55,13 @@ static void *edged(const void *of, size_t n, bool written) {
 }
 
 /* What was written goes back. */
-static uint32_t unedged(uint32_t fault) {
+static uint64_t unedged(uint64_t answer) {
     for (int k = 0; k < edge_count; k++) {
         if (edges[k].written) memcpy(edges[k].of, edges[k].array, edges[k].n);
         munmap(edges[k].pages, edges[k].all);
     }
     edge_count = 0;
-    return fault;
+    return answer;
 }
 """
 
@@ -69,7 +70,7 @@ def main():
     with open(sys.argv[1], encoding="utf-8") as file:
         header = file.read()
     print(HEAD)
-    for name, parameters in calls(header):
+    for name, answer, parameters in calls(header):
         if not parameters:
             continue
         given = []
@@ -77,8 +78,8 @@ def main():
             size = f"{length or 1} * sizeof *{word}"
             given.append(f"edged({word}, {size}, {str('const' not in kind).lower()})" if kind.endswith("*") else word)
         declared = ", ".join(f"{kind} {word}" for kind, word, _ in parameters)
-        print(f"static inline uint32_t edged_{name}({declared}) {{\n    return unedged(mizgaure_{name}({', '.join(given)}));\n}}")
-    for name, parameters in calls(header):
+        print(f"static inline {answer} edged_{name}({declared}) {{\n    return ({answer})unedged(mizgaure_{name}({', '.join(given)}));\n}}")
+    for name, _, parameters in calls(header):
         if parameters:
             print(f"#define mizgaure_{name} edged_{name}")
 

@@ -104,6 +104,27 @@ def test_texts_are_those_of_the_vectors(command, some):
             assert said == text.read_bytes(), text.name
 
 
+@pytest.mark.parametrize("command", ["detect", "rx", "soft"])
+def test_a_size_suffices_for_each_capture_of_the_vectors(command):
+    size, captures = getattr(library, f"{command}_size"), 0
+    for text in VECTORS.glob(f"*/*.{command}"):
+        capture = text.with_suffix(".htcp")
+        if capture.exists() and not text.read_bytes().splitlines()[-1].startswith(b"refused"):
+            captures += 1
+            assert text.stat().st_size <= size(capture.read_bytes()), text
+    assert captures > 10
+
+
+def test_a_size_is_what_the_header_says():
+    capture = (TOP / "examples" / "z.htcp").read_bytes()
+    newer = library.upgrade(capture)
+    assert library.detect_size(capture) == 6 * 1019
+    assert library.rx_size(capture) == library.soft_size(capture) == 32 + 1019 // 2
+    assert library.rx_size(newer) == library.soft_size(newer) == 32 + 17 * 1075
+    assert library.rx_size(newer + bytes(10000)) == 32 + 131177
+    assert library.rx_size(b"") == 32 and library.rx_size(b"HTCP\x02\x01") == 32 + 17 * 6
+
+
 def test_certificates_and_the_channel_are_those_of_the_program():
     capture = (TOP / "examples" / "z.htcp").read_bytes()
     assert library.check(library.certify(capture)).endswith(b"end 104 jobs yes 104\n")
@@ -288,10 +309,10 @@ def test_the_declarations_are_those_of_the_header():
     edges = importlib.util.module_from_spec(source)
     source.loader.exec_module(edges)
     types = {f"uint{bits}_t": getattr(ctypes, f"c_uint{bits}") for bits in (8, 16, 32, 64)} | {"size_t": ctypes.c_size_t}
-    for name, parameters in edges.calls((TOP / "library" / "mizgaure.h").read_text()):
+    for name, answer, parameters in edges.calls((TOP / "library" / "mizgaure.h").read_text()):
         call = getattr(library._library, f"mizgaure_{name}")
         wanted = [ctypes.c_void_p if parameter.is_pointer else types[parameter.type] for parameter in parameters]
-        assert list(call.argtypes or ()) == wanted and call.restype is ctypes.c_uint32, name
+        assert list(call.argtypes or ()) == wanted and call.restype is types[answer], name
 
 
 def test_the_layouts_are_those_of_the_header():

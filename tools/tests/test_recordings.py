@@ -283,8 +283,19 @@ def test_bad_files_get_one_sentence(here, sent, tmp_path):
             archive.add(tmp_path / f"{name}.sigmf-meta", f"{name}.sigmf-meta")
     (tmp_path / "ch2.sigmf-data").write_bytes(sent)
     (tmp_path / "ch2.sigmf-meta").write_text(json.dumps(meta_of(Layout("ci16_le", 40e6, 2))))
+    for name, captures in (("one", [(0, 1e9, None)]), ("two", [(0, 1e9, None), (500, 1e9, None)]), ("late", [(0, 1e9, None), (700, 1e9, None)]),
+                           ("high", [(0, 2e9, None)]), ("noon", [(0, 1e9, "2026-01-31T12:00:00Z")])):
+        meta = meta_of(Layout("ci16_le", 20e6, 2), **{"core:dataset": "ch2.sigmf-data"})
+        meta["captures"] = [{"core:sample_start": start, "core:frequency": frequency, **({} if time is None else {"core:datetime": time})}
+                            for start, frequency, time in captures]
+        (tmp_path / f"{name}-at.sigmf-meta").write_text(json.dumps(meta))
     before = sorted(tmp_path.iterdir())
+    other = "ch2.sigmf-data and ch2.sigmf-data have other {}, so they aren't antennas of one receiver"
     cases = [
+        (["one-at", "two-at"], other.format("captures")),
+        (["two-at", "late-at"], other.format("captures")),
+        (["one-at", "high-at"], other.format("frequencies")),
+        (["one-at", "noon-at"], other.format("times")),
         (["text.npy"], "text.npy has values of type <U1, and complex ones, or pairs of I and Q, are asked for"),
         (["real.npy"], "real.npy has values of type float64, and complex ones, or pairs of I and Q, are asked for"),
         (["cube.npy"], "cube.npy has the shape 3 x 4 x 5, and time by up to 16 antennas is asked for"),
@@ -409,7 +420,7 @@ def test_packets_become_annotations(here, sent, tmp_path):
 
 # rates and places
 
-def at_rate(rate: float, bandwidth: int = 20, middle: float = 0.0, snr: float = 30.0, count: int = 2, offset: float = 1e-5):
+def at_rate(rate: float, bandwidth: int = 20, middle: float = 0.0, snr: float = 30.0, count: int = 2, offset: float = 1e-5, greenfield: bool = False):
     """Packets as a receiver samples them at any rate, by sums of subcarriers at its instants, and their frames."""
     random = np.random.default_rng(4)
     frames = [random_symbols(Rate(bandwidth, mcs), 300, random) for mcs in (3, 7)[:count]]
@@ -417,7 +428,7 @@ def at_rate(rate: float, bandwidth: int = 20, middle: float = 0.0, snr: float = 
     clock = Clock(over, 20e6 * over / rate * (1 + offset) - 1)
     made = []
     for frame in frames:
-        _, samples = packet(frame, clock, 0.37)
+        _, samples = packet(frame, clock, 0.37, greenfield=greenfield)
         made.append(samples * np.exp(2j * np.pi * (5.18e9 * offset + middle) / rate * np.arange(samples.shape[1])))
     silence = np.zeros((1, int(40e-6 * rate)), complex)
     whole = np.concatenate([part for samples in made for part in (silence, samples)] + [silence], axis=1)
@@ -501,10 +512,11 @@ def test_the_resampler_gives_what_scipys_does(rate, up, down):
         assert np.abs(found - told[:, 1000 : recording.length - 1000]).max() < 2e-3 * level
 
 
-@pytest.mark.parametrize("rate, middle, expected", [(25e6, 2.5e6, 2.5e6), (25e6, -2.0e6, -2.5e6), (40e6, 5e6, 5e6), (100e6, 30e6, 30e6),
-                                                    (20e6, 1.1e6, 1.1e6), (25e6, 3.6e6, 3.6e6)])
-def test_a_band_beside_the_middle_is_found(rate, middle, expected):
-    octets, frames = at_rate(rate, middle=middle, count=1)
+@pytest.mark.parametrize("rate, middle, expected, greenfield", [(25e6, 2.5e6, 2.5e6, False), (25e6, -2.0e6, -2.5e6, False), (40e6, 5e6, 5e6, False),
+                                                                (100e6, 30e6, 30e6, False), (20e6, 1.1e6, 1.1e6, False), (25e6, 3.6e6, 3.6e6, False),
+                                                                (50e6, -12.5e6, -12.5e6, True)])
+def test_a_band_beside_the_middle_is_found(rate, middle, expected, greenfield):
+    octets, frames = at_rate(rate, middle=middle, count=1, greenfield=greenfield)
     recording = air.recording_of(octets, Layout("cf32_le", rate))
     shift = Look(recording).shift()
     assert shift == expected
@@ -562,6 +574,8 @@ def test_no_packet_is_a_result_and_its_cause_is_named(here, tmp_path):
     for said, samples, rate in likely_causes():
         assert said in Look(air.recording_of(air.octets_in(samples), Layout("cf32_le", rate))).cause(), said
     quiet = np.random.default_rng(1).integers(-1, 2, (4000, 2)).astype("<i2")
+    words = np.random.default_rng(1).bytes(80000)  # as of whole numbers that are read as floating point
+    assert Look(air.recording_of(words, Layout("cf32_le", 20e6))).cause() == "parts aren't finite numbers, so the type of the samples may be another"
     assert "is 1 of 32768 steps, so the receiver's gain was too low" in Look(air.recording_of(quiet.tobytes(), Layout("ci16_le", 20e6))).cause()
     (tmp_path / "x").write_bytes(bytes(8000))
     said = b"no packet was found in 1000 samples, 0.000050 s: all samples are 0\n"

@@ -1,4 +1,13 @@
+mod Costs
+mod Eights
+mod FrameLines
 mod LegacyLengths
 mod Lengths
+mod LineLengths
 mod Made
+mod Rooms
 mod Shares
+mod SmallJobs
+mod Suffices
+mod SymbolBits
+mod Weighing

@@ -7,6 +7,7 @@ use Rattle.ht_metric.specs.declared.found.Found.{Found}
 use Rattle.ht_metric.specs.Rows.{Row, rows_of, legs_of}
 use Rattle.ht_metric.specs.Vectors.{no_point}
 use Rattle.ht_metric.specs.Jobs.{JobView, near}
+use Rattle.ht_rounding.specs.Loading.{no_found}
 use Rattle.ht_library.specs.declared.crossing.MizgaureChannel.{MizgaureChannel}
 use Rattle.ht_library.specs.declared.crossing.MizgaureReceived.{MizgaureReceived}
 use Rattle.ht_library.specs.declared.crossing.MizgaureHit.{MizgaureHit}
@@ -44,12 +45,19 @@ no_received = record { samples = [] }
 abbrev pub no_hit : MizgaureHit
 no_hit = record { points = []; low = 0; high = 0 }
 
--- The first of these hits are those of their samples' jobs. The samples stand symbol by symbol, and each symbol has the
--- same channels.
+-- The job of the sample of this number. The samples stand symbol by symbol, and each symbol has the same channels.
+abbrev pub job_at : Rate → List MizgaureChannel → List MizgaureReceived → ℕ → JobView
+job_at rate channels received k =
+    job_of rate (slice_index_or channels (k % length channels) no_channel) (slice_index_or received k no_received)
+
+-- the first of these hits are those of their samples' jobs
 abbrev pub AreHitsBelow : ℕ → Rate → List MizgaureChannel → List MizgaureReceived → List MizgaureHit → Type 0
-AreHitsBelow count rate channels received hits = (k : ℕ) → k < count
-    → IsHit (near (job_of rate (slice_index_or channels (k % length channels) no_channel) (slice_index_or received k no_received)))
-    (slice_index_or hits k no_hit)
+AreHitsBelow count rate channels received hits =
+    (k : ℕ) → k < count → IsHit (near (job_at rate channels received k)) (slice_index_or hits k no_hit)
+
+-- eight things were found, those of the jobs of the samples from one on
+abbrev pub AreFoundFrom : ℕ → Rate → List MizgaureChannel → List MizgaureReceived → List Found → Type 0
+AreFoundFrom at rate channels received founds = (k : ℕ) → k < 8 → slice_index_or founds k no_found ≡ near (job_at rate channels received (at + k))
 
 -- all of them are
 abbrev pub AreHits : Rate → List MizgaureChannel → List MizgaureReceived → List MizgaureHit → Type 0

@@ -4,5 +4,6 @@ pub mod Detected
 pub mod Framed
 pub mod Legacy
 pub mod Mapped
+pub mod Sizes
 pub mod Weighed
 pub mod Written

@@ -20,6 +20,7 @@ mod legacy_decoding;
 mod mapping;
 mod parsing;
 mod sending;
+mod sizes;
 mod version;
 mod weights;
 

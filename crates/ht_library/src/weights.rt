@@ -1,44 +1,15 @@
 //! The weights of label bits.
 ghost use Rattle.std.specs.Prelude.{◌≡◌, ◌⊎◌, ◌↔◌, ◌<◌, ◌≤◌, length, IsTrue, Ok};
-ghost use Rattle.ht_rate.specs.Rates.{label_bits_of, modulation_of, rate_of, streams_of};
+ghost use Rattle.ht_rate.specs.Rates.{rate_of};
 ghost use Rattle.ht_rate.specs.declared.rates.Rate.{Rate as RateView};
-ghost use Rattle.ht_map.specs.Constellation.{grid_of};
-ghost use Rattle.ht_metric.specs.Jobs.{near};
-ghost use Rattle.ht_soft.specs.Halves.{half_of};
-ghost use Rattle.ht_soft.specs.Weights.{weight_at};
 ghost use Rattle.ht_library.specs.Weighed.{AreWeighed, AreWeights};
 
 use crate::crossing::{MizgaureChannel, MizgaureReceived};
-use crate::detection::job;
+use crate::detection::job_at;
 use crate::fault::{BAD_LENGTH, DONE, NO_RATE};
-use ht_feed::detect;
-use ht_metric::Job;
+use ht_map::grid;
 use ht_rate::Rate;
-use ht_soft::{half, weight};
-
-// The least distance of a job where a bit of the label on a stream has this value.
-fn half_distance(rate: &Rate, job: &Job, stream: u8, bit: u8, value: bool) -> u128
-    requires grid { job.now.grid ≡ grid_of rate.now }
-    requires stream { (1 ≤ stream) × (stream ≤ streams_of rate.now) }
-    requires bit { bit < label_bits_of rate.now }
-    ensures { result ≡ (near (half_of (modulation_of rate.now) stream bit value job.now.number job.now)).distance }
-{
-    detect(&half(rate.modulation(), job, job.number(), stream, bit, value)).distance
-}
-
-// The weight of a bit of the label on a stream of a job.
-#[tactic(auto, unfolding(ht_soft::specs::Weights::weight_at))]
-fn weigh(rate: &Rate, job: &Job, stream: u8, bit: u8) -> i32
-    requires grid { job.now.grid ≡ grid_of rate.now }
-    requires stream { (1 ≤ stream) × (stream ≤ streams_of rate.now) }
-    requires bit { bit < label_bits_of rate.now }
-    ensures { result ≡ weight_at (modulation_of rate.now) job.now stream bit }
-{
-    weight(
-        half_distance(rate, job, stream, bit, false),
-        half_distance(rate, job, stream, bit, true),
-    )
-}
+use ht_weigh::weigh;
 
 // Whether there is a weight for each label bit of so many samples.
 fn are_weighed(rate: &Rate, channels: usize, received: usize, weights: usize) -> bool
@@ -54,7 +25,7 @@ fn are_weighed(rate: &Rate, channels: usize, received: usize, weights: usize) ->
     }
 }
 
-// Writes the weights of all label bits.
+// Writes the weights of all label bits, job by job.
 fn fill_weights(
     rate: &Rate,
     channels: &[MizgaureChannel],
@@ -65,17 +36,13 @@ fn fill_weights(
     ensures length { length weights.new ≡ length weights.old }
     ensures value { AreWeights (length weights.new) rate.now channels.now received.now weights.new }
 {
-    let bits = usize::from(rate.label_bits());
-    let each = usize::from(rate.streams()) * bits;
-    for at in 0..weights.len() {
-        let sample = at / each;
-        let job = job(rate, &channels[sample % channels.len()], &received[sample]);
-        weights[at] = weigh(
-            rate,
-            &job,
-            (at % each / bits + 1) as u8,
-            (at % each % bits) as u8,
-        );
+    let grid = grid(rate);
+    let modulation = rate.modulation();
+    let each = usize::from(rate.streams()) * usize::from(rate.label_bits());
+    for k in 0..received.len() {
+        let job = job_at(rate, &grid, channels, received, k);
+        let at = k * each;
+        let _least = weigh(modulation, &job, &mut weights[at..at + each]);
     }
 }
 

@@ -16,8 +16,8 @@ use ht_rate::{Carrier, Modulation};
 use ht_rounding::{Labelled, find_only, label_eight};
 use std::alloc::{AllocError, Global};
 
-/// Makes the tally of any block that knows its frame. Where the gate is open, jobs are found eight at a time, in lanes (crate
-/// `ht_rounding`); else each by itself, between the two calls of the gate.
+/// Makes the tally of any block that knows its frame. Where the gate is open and the frame has several spatial streams, jobs are
+/// found eight at a time, in lanes (crate `ht_rounding`); else each by itself, between the two calls of the gate.
 #[derive(Drop)]
 pub struct LaneWork<'g, G> {
     /// Where the memory for labels comes from.
@@ -31,7 +31,7 @@ impl<'g, B: InFrame<Head = FrameHead>, G: Gate> Work<B> for LaneWork<'g, G> {
 
     fn answer_to(&self, block: &B) -> Result<Tally<HardLabels>, AllocError> {
         let head = block.head();
-        if self.gate.is_open() {
+        if self.gate.is_open() && head.rate.streams() > 1 {
             return tally_in_lanes(self.alloc, head, block);
         }
         tally_of::<HardLabels, B, G>(self.alloc, head, block, self.gate)
@@ -281,7 +281,9 @@ fn add_rest<B: Jobs>(
     add_lanes(tally, block, size - 8, 8 - rest)
 }
 
-// What the jobs of a block come to, which are of a frame with this head. The only error is lack of memory.
+// What the jobs of a block come to, which are of a frame with this head. The only error is lack of memory. It stays out of line,
+// since what it needs would cost frames of one spatial stream, which never come here.
+#[inline(never)]
 fn tally_in_lanes<B: Jobs>(
     alloc: Global,
     head: &FrameHead,

@@ -132,6 +132,7 @@ mod c {
             rate: u8, labels: *const u8, n: usize, octets: *mut u8, octets_n: usize, differences: *mut u32,
         ) -> u32;
         pub fn mizgaure_rx(capture: *const u8, n: usize, text: *mut u8, text_n: usize, size: *mut u64, refusal: *mut Refusal) -> u32;
+        pub fn mizgaure_rx_size(capture: *const u8, n: usize) -> u64;
     }
 }
 
@@ -215,22 +216,19 @@ pub fn transmit(rate: Rate, seed: u8, octets: &[u8], points: &mut [Point]) -> Re
 
 /// The text of `radio rx` for a capture.
 pub fn rx(capture: &[u8]) -> Result<Vec<u8>, Fault> {
-    let mut text = vec![0; 4096 + 2 * capture.len()];
-    loop {
-        let (mut size, mut refusal) = (0, Refusal::default());
-        // SAFETY: as above.
-        let answer =
-            unsafe { c::mizgaure_rx(capture.as_ptr(), capture.len(), text.as_mut_ptr(), text.len(), &mut size, &mut refusal) };
-        match answer {
-            REFUSED => return Err(Fault::Refused { kind: refusal.kind, offset: refusal.offset }),
-            NO_ROOM => text.resize(size as usize, 0),
-            _ => {
-                done(answer)?;
-                text.truncate(size as usize);
-                return Ok(text);
-            }
-        }
+    // SAFETY: as above.
+    let mut text = vec![0; unsafe { c::mizgaure_rx_size(capture.as_ptr(), capture.len()) } as usize];
+    let (mut size, mut refusal) = (0, Refusal::default());
+    // SAFETY: as above.
+    let answer =
+        unsafe { c::mizgaure_rx(capture.as_ptr(), capture.len(), text.as_mut_ptr(), text.len(), &mut size, &mut refusal) };
+    if answer == REFUSED {
+        return Err(Fault::Refused { kind: refusal.kind, offset: refusal.offset });
     }
+    done(answer)?;
+    text.truncate(size as usize);
+    text.shrink_to_fit();
+    Ok(text)
 }
 
 /// The certificate of a data subcarrier: its hit, and the marks that show that no vector is nearer, `true` where a level is open.

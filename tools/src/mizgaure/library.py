@@ -22,7 +22,7 @@ import numpy as np
 from .errors import InputError
 from .rates import Rate
 
-VERSION = 2
+VERSION = 3
 
 #: An entry of a channel above the diagonal.
 TAP = np.dtype([("re", "<i2"), ("im", "<i2")])
@@ -167,7 +167,7 @@ def _call(name: str, *types: type):
         function = getattr(_library, "mizgaure_" + name)
     except AttributeError as error:
         raise ImportError(f"the library {_library._name} lacks a call: {error}") from error
-    function.argtypes, function.restype = types, ctypes.c_uint32
+    function.argtypes, function.restype = types, _U64 if name.endswith("_size") else _U32
     return function
 
 
@@ -209,6 +209,9 @@ _many = _call("many", _P, _N, _P, _N, _P, _P)
 _tx = _call("tx", _P, _N, _P, _N, _P, _P)
 _upgrade = _call("upgrade", _P, _N, _P, _N, _P, _P)
 _legacy_pass = _call("legacy_pass", _U64, _U16, _P, _N, _P, _N, _P, _P)
+_detect_size = _call("detect_size", _P, _N)
+_rx_size = _call("rx_size", _P, _N)
+_soft_size = _call("soft_size", _P, _N)
 
 _PERIODS = (1, 2, 3, 5)
 _INT32 = np.dtype(np.int32)
@@ -577,13 +580,24 @@ def legacy_pilots(symbol: int) -> np.ndarray:
     return made
 
 
-def _written(call, given: Octets, *before: int, out: Optional[np.ndarray] = None) -> Union[bytes, memoryview]:
+def _sized(size, given: Octets) -> int:
+    given = _octets(given)
+    return size(_at(given), given.size)
+
+
+def _room(size, given: np.ndarray) -> np.ndarray:
+    """An array for an output. Memory that nothing is written to costs nothing, but it may be more than there is."""
+    some = 4096 + 8 * given.size
+    try:
+        return np.empty(some if size is None else size(_at(given), given.size), np.uint8)
+    except (MemoryError, OverflowError, ValueError):
+        return np.empty(some, np.uint8)
+
+
+def _written(call, given: Octets, *before: int, out: Optional[np.ndarray] = None, room_by=None) -> Union[bytes, memoryview]:
     given = _octets(given)
     size, refusal = ctypes.c_uint64(), _Refusal()
-    if out is None:
-        room = np.empty(4096 + 8 * given.size, np.uint8)  # memory that nothing is written to costs nothing
-    else:
-        room = _out(out, getattr(out, "shape", None), np.dtype(np.uint8))
+    room = _room(room_by, given) if out is None else _out(out, getattr(out, "shape", None), np.dtype(np.uint8))
     while True:
         into, of = _apart(room, given)
         fault = call(*before, of, given.size, into, room.size, ctypes.addressof(size), ctypes.addressof(refusal))
@@ -596,23 +610,38 @@ def _written(call, given: Octets, *before: int, out: Optional[np.ndarray] = None
         return room[: size.value].tobytes() if out is None else memoryview(room)[: size.value]
 
 
+def detect_size(capture: Octets) -> int:
+    """A number of octets that suffices for ``out`` of ``detect``, whatever the capture holds: six times its own."""
+    return _sized(_detect_size, capture)
+
+
+def rx_size(capture: Octets) -> int:
+    """A number of octets that suffices for ``out`` of ``rx``: half of the capture's own and 32, more at version 2."""
+    return _sized(_rx_size, capture)
+
+
+def soft_size(capture: Octets) -> int:
+    """A number of octets that suffices for ``out`` of ``soft``: half of the capture's own and 32, more at version 2."""
+    return _sized(_soft_size, capture)
+
+
 def detect(capture: Octets, out: Optional[np.ndarray] = None) -> Union[bytes, memoryview]:
     """The text of ``radio detect`` for a capture (HTCP) in memory.
 
     Where ``out`` is given, an array of uint8, the text is put there, and the answer is a view of it: an array that is used again
-    costs no new memory. ``NoRoom`` if it is too short.
+    costs no new memory. ``NoRoom`` if it is too short, which it never is with the octets that ``detect_size`` says.
     """
-    return _written(_detect, capture, out=out)
+    return _written(_detect, capture, out=out, room_by=_detect_size)
 
 
 def rx(capture: Octets, out: Optional[np.ndarray] = None) -> Union[bytes, memoryview]:
-    """The text of ``radio rx`` for a capture (HTCP) in memory. ``out`` is as in ``detect``."""
-    return _written(_rx, capture, out=out)
+    """The text of ``radio rx`` for a capture (HTCP) in memory. ``out`` is as in ``detect``, with ``rx_size``."""
+    return _written(_rx, capture, out=out, room_by=_rx_size)
 
 
 def soft(capture: Octets, out: Optional[np.ndarray] = None) -> Union[bytes, memoryview]:
-    """The text of ``radio soft`` for a capture (HTCP) in memory. ``out`` is as in ``detect``."""
-    return _written(_soft, capture, out=out)
+    """The text of ``radio soft`` for a capture (HTCP) in memory. ``out`` is as in ``detect``, with ``soft_size``."""
+    return _written(_soft, capture, out=out, room_by=_soft_size)
 
 
 def lrx(capture: Octets, out: Optional[np.ndarray] = None) -> Union[bytes, memoryview]:

@@ -53,8 +53,8 @@ class Excerpt(Recording):
 
 
 def has_packets(recording: Recording) -> bool:
-    """Whether a packet is in it whose L-SIG is right."""
-    return any(packet.legacy is not None for packet in packets_in(recording))
+    """Whether a packet is in it whose L-SIG, or in HT-greenfield format HT-SIG, is right."""
+    return any(packet.legacy is not None or packet.signal is not None for packet in packets_in(recording))
 
 
 class Look:

@@ -311,7 +311,7 @@ class Joined(Recording):
         for part in parts[1:]:
             if part.layout.rate != front.layout.rate:
                 raise InputError(f"{front.name} has {front.layout.rate:.10g} samples a second, and {part.name} {part.layout.rate:.10g}")
-            for what, kind in (("frequencies", "frequency"), ("times", "time")):
+            for what, kind in (("captures", "start"), ("frequencies", "frequency"), ("times", "time")):
                 if [getattr(s, kind) for s in part.segments] != [getattr(s, kind) for s in front.segments]:
                     raise InputError(f"{front.name} and {part.name} have other {what}, so they aren't antennas of one receiver")
             if part.first != front.first:

@@ -85,7 +85,7 @@ def words(command: argparse.ArgumentParser) -> None:
     add_part(command)
     command.add_argument("-o", "--output", metavar="FILE",
                          help="write the MPDUs with radiotap headers (pcap, or pcapng where it ends in .pcapng), as Wireshark reads them")
-    command.add_argument("--soft", action="store_true", help="decode packets in HT-mixed format by soft decisions, and say what they cost")
+    command.add_argument("--soft", action="store_true", help="decode HT packets by soft decisions, and say what they cost")
     command.add_argument("--full-scale", metavar="DBM", type=level, help="the power at an antenna whose samples have mean power 1; levels are in dBm then")
     sent = command.add_mutually_exclusive_group()
     sent.add_argument("--sent", metavar="N", type=positive_whole, help="count right, wrong and lost packets of so many that were sent")
@@ -146,7 +146,7 @@ def _tally(given: argparse.Namespace) -> Optional[Tally]:
 
 
 def _counted(tally: Tally, packet: Received) -> Optional[str]:
-    """Count a packet, if it is one in HT-mixed format."""
+    """Count a packet, if it is an HT one."""
     header = packet.line.header
     if "mcs" not in header:
         return None
@@ -170,7 +170,7 @@ def received(recording: Recording, radio: Radio, processes: int = 1, soft: bool 
 
 
 class _Batch:
-    """Packets that the program receives at once: those in HT-mixed format and those of clause 18."""
+    """Packets that the program receives at once: HT ones and those of clause 18."""
 
     def __init__(self, radio: Radio, soft: bool = False) -> None:
         self.radio, self.soft = radio, soft

@@ -1,6 +1,6 @@
 use Rattle.std.proofs.Common.{◌≡◌, length}
 use Rattle.ht_library.specs.Detected.{AreHitsBelow}
-use Rattle.ht_library.proofs.detection.fill_hits.Given as goal
+use Rattle.ht_library.proofs.detection.fill_rest.Given as goal
 
 abbrev pub invariant-loop-k : goal.invariant-loop-k
 invariant-loop-k l = record {

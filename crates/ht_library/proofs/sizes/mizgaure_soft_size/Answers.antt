@@ -1,0 +1,13 @@
+use Rattle.std.proofs.Common.{◌≤◌, ℕ, length, subst, sym, rules, arith}
+use Rattle.std.proofs.Math.Facts.{Fits-lt-pow}
+use Rattle.ht_fields.specs.Tests.{AreBytes}
+use Rattle.ht_soft_rx.specs.Texts.{soft_rx_text}
+use Rattle.ht_library.proofs.Suffices.{soft-room}
+use Rattle.ht_library.proofs.sizes.mizgaure_soft_size.Goals as goal
+
+pub returns-clause-suffices : goal.returns-clause-suffices
+returns-clause-suffices c = λ few whole.
+    let octets = c.args.capture.now in
+    let bytes : AreBytes octets = λ i. Fits-lt-pow (c.type_inv.capture i) in
+    let room = soft-room octets bytes whole in
+    subst (λ (n : ℕ). length (soft_rx_text octets) ≤ n) (sym c.room.ensures) room
