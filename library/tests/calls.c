@@ -341,7 +341,7 @@ static void whole_inputs(void) {
     EXPECT(mizgaure_detect(capture, n, text, mizgaure_detect_size(capture, n), &size, &refusal) == MIZGAURE_DONE);
     memcpy(text, capture, 7), text[4] = 2;
     EXPECT(mizgaure_rx_size(text, n) == 32 + 17 * n && mizgaure_rx_size(text, sizeof text) == 32 + 131177);
-    EXPECT(mizgaure_soft_size(text, 6) == 32 + 17 * 6 && mizgaure_rx_size(text, 4) == 34 && mizgaure_rx_size(text, 0) == 32);
+    EXPECT(mizgaure_soft_size(text, 7) == 32 + 17 * 7 && mizgaure_rx_size(text, 4) == 34 && mizgaure_rx_size(text, 0) == 32);
     size = 77, memset(text, 0x55, sizeof text);
     EXPECT(mizgaure_rx(capture, n, text, strlen(wanted) - 1, &size, &refusal) == MIZGAURE_NO_ROOM && size == strlen(wanted));
     size = 77;
