@@ -15,10 +15,9 @@ use std::alloc::Global;
 
 /// Runs all jobs of a feed, in this thread, and hands it their hits in the order of the jobs.
 ///
-/// The feed has given nothing yet. One job is due at a time, whatever `window`, 1 to 4096, is: its hit is handed over
-/// before the next job is asked for. The gate is called before and after each job.
+/// The feed has given nothing yet. At most `window` jobs, 1 to 4096, are due. The gate is called before and after each job.
 ///
-/// It refuses with the feed's fault. It takes no memory, so `NoMemory` never comes.
+/// It refuses with the feed's fault, or with `NoMemory`.
 #[tactic(auto, using(crate::proofs::InBlocks::few_due, crate::proofs::InBlocks::none_due, crate::proofs::InBlocks::in_turn))]
 pub fn drive_alone<F: Feed, G: Gate>(
     alloc: Global,

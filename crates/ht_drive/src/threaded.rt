@@ -36,8 +36,8 @@ use std::thread::Threads;
 /// worker it is [`drive_alone`](ht_feed::drive_alone).
 ///
 /// At most `window` jobs, 1 to 4096, are due, whichever call of the feed fails: the caller asks for blocks until a whole one
-/// finds no room among them, and copies each to the pool, which has a thread for each other worker. A block has at most as
-/// many jobs as the [`Pace`] of crate `ht_pace` says, never more than 57.
+/// finds no room among them, and copies each to the pool, which has a thread for each other worker. How many
+/// jobs it asks for at once the [`Pace`] of crate `ht_pace` says; no clause does.
 ///
 /// It refuses with the feed's fault, with `NoMemory` before any call of it, or later with `Work` for lack of memory. Threads
 /// that can't be started leave more to the caller.
