@@ -6,11 +6,11 @@ use Rattle.ht_results.specs.Texts.{frame_lines_of, rx_text}
 use Rattle.ht_runs.specs.Formats.{filter}
 use Rattle.ht_runs.specs.Streamed.{EndsWithItsFault}
 use Rattle.ht_runs.proofs.Streaming.{ends_with_its_fault}
-use Rattle.ht_endings.specs.Endings.{end_as}
+use Rattle.ht_receive.specs.Endings.{end_as}
 use Rattle.ht_rx.proofs.Texts.{detects, end_of_capture, receives}
 use Rattle.ht_soft_rx.specs.Texts.{soft_lines_of, soft_rx_text}
 use Rattle.ht_soft_rx.proofs.Told.{lines_lined as soft_lined}
-use Rattle.ht_legacy_captures.specs.Formats.{captures as legacy_captures}
+use Rattle.ht_legacy_files.specs.CaptureFormats.{captures as legacy_captures}
 use Rattle.ht_legacy_rx.specs.Texts.{legacy_items, legacy_lines_of, legacy_text}
 use Rattle.ht_legacy_rx.proofs.Telling.{lines_lined as legacy_lined}
 

@@ -1,7 +1,7 @@
 -- What a line that is put comes to.
 use Rattle.std.specs.Prelude.{ℕ, List}
 use Rattle.ht_io.specs.Devices.{Device}
-use Rattle.ht_endings.specs.Endings.{PutsText}
+use Rattle.ht_receive.specs.Endings.{PutsText}
 use Rattle.ht_cli.specs.declared.status.Status.{Status}
 use Rattle.ht_cli.specs.declared.status.Status.TheVariants.{WriteFault, NoMemory}
 

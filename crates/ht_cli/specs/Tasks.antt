@@ -20,7 +20,7 @@ use Rattle.ht_cert.specs.Formats.{certificates}
 use Rattle.ht_certify.specs.Certifying.{certifying}
 use Rattle.ht_check.specs.Checks.{check_lines, check_text}
 use Rattle.ht_legacy_sim.specs.Passing.{passing as legacy_passing}
-use Rattle.ht_legacy_captures.specs.Formats.{captures as legacy_captures}
+use Rattle.ht_legacy_files.specs.CaptureFormats.{captures as legacy_captures}
 use Rattle.ht_legacy_rx.specs.Texts.{legacy_lines_of, legacy_text}
 use Rattle.ht_soft_rx.specs.Texts.{soft_lines_of, soft_rx_text}
 use Rattle.ht_several.specs.Bundles.{receiving}

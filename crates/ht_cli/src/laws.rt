@@ -30,7 +30,7 @@ ghost use Rattle.ht_sim.specs.Passing.{PassesTo, passing};
 ghost use Rattle.ht_bundles.specs.Formats.{bundles};
 ghost use Rattle.ht_several.specs.Bundles.{ReceivesTo, receiving};
 ghost use Rattle.ht_legacy_files.specs.Formats.{frames as legacy_frames};
-ghost use Rattle.ht_legacy_captures.specs.Formats.{captures as legacy_captures};
+ghost use Rattle.ht_legacy_files.specs.CaptureFormats.{captures as legacy_captures};
 ghost use Rattle.ht_legacy_sim.specs.Passing.{PassesTo as LegacyPassesTo, passing as legacy_passing};
 ghost use Rattle.ht_legacy_rx.specs.Texts.{legacy_lines_of, legacy_text};
 ghost use Rattle.ht_round.specs.Returned.{returned_text};

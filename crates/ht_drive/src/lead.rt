@@ -11,7 +11,7 @@ use crate::task::Runner;
 use crate::turn::turn;
 use crate::window::Window;
 use ht_feed::{Answer, BlockFeed, DriveFault, Shared, Work};
-use ht_pace::Pace;
+use crate::pace::Pace;
 use std::sync::Wait;
 
 /// Leads all blocks of a feed through an empty window and a pool to which nothing was given, and hands the feed their

@@ -17,7 +17,7 @@ use crate::tally::Tally;
 use crate::task::{Done, Runner, Task};
 use crate::window::Window;
 use ht_feed::{Answer, BlockFeed, DriveFault, Jobs, Shared, Work, drive_alone};
-use ht_pace::Pace;
+use crate::pace::Pace;
 use ht_pool::close::close;
 use ht_pool::closed::Closed;
 use ht_pool::crew::beside;
@@ -37,7 +37,7 @@ use std::thread::Threads;
 ///
 /// At most `window` jobs, 1 to 4096, are due, whichever call of the feed fails: the caller asks for blocks until a whole one
 /// finds no room among them, and copies each to the pool, which has a thread for each other worker. How many
-/// jobs it asks for at once the [`Pace`] of crate `ht_pace` says; no clause does.
+/// jobs it asks for at once no clause says.
 ///
 /// It refuses with the feed's fault, with `NoMemory` before any call of it, or later with `Work` for lack of memory. Threads
 /// that can't be started leave more to the caller.

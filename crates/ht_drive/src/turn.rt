@@ -5,7 +5,7 @@ ghost use Rattle.ht_drive.specs.Blocks.{IsSameHelm, seen};
 use crate::helm::BlockHelm;
 use crate::window::Window;
 use ht_feed::{Answer, Shared, Work};
-use ht_pace::Pace;
+use crate::pace::Pace;
 use std::alloc::AllocError;
 use std::thread;
 

@@ -19,11 +19,11 @@ use Rattle.ht_counted.specs.Counted.{counted_format, frame_limits}
 use Rattle.ht_counted.proofs.Counting.{route_start}
 use Rattle.ht_legacy_files.specs.HeadedFormats.{behind_head, headed}
 use Rattle.ht_legacy_files.proofs.HeadRoutes.{route_head}
-use Rattle.ht_legacy_captures.specs.Formats.{Diagonals, Samples, captured, captures, captures_due, captures_magic, symbols_due}
-use Rattle.ht_legacy_captures.specs.Formats.{good_diagonals, good_samples}
-use Rattle.ht_legacy_captures.specs.Items.{LegacyHead, Begins, Symbol}
+use Rattle.ht_legacy_files.specs.CaptureFormats.{Diagonals, Samples, captured, captures, captures_due, captures_magic, symbols_due}
+use Rattle.ht_legacy_files.specs.CaptureFormats.{good_diagonals, good_samples}
+use Rattle.ht_legacy_files.specs.CaptureItems.{LegacyHead, Begins, Symbol}
 use Rattle.ht_legacy_blocks.specs.Jobs.{diagonals_of, samples_of}
-use Rattle.ht_legacy_captures.proofs.Routes.{State, symbol_is}
+use Rattle.ht_legacy_files.proofs.CaptureRoutes.{State, symbol_is}
 
 -- what stands in front of the frames
 length_start : (count : ℕ) → 7 ≡ 0 + length (started_octets captures_magic 2 count)

@@ -14,7 +14,7 @@ use Rattle.ht_capture.specs.Frames.{one_point}
 use Rattle.ht_rate.specs.declared.kinds.Carrier.{Carrier}
 use Rattle.ht_rate.specs.declared.kinds.Carrier.TheVariants.{Data, Pilot}
 use Rattle.ht_capture.specs.Numbers.{sample_at}
-use Rattle.ht_legacy_captures.specs.Formats.{numbers_from, samples_from}
+use Rattle.ht_legacy_files.specs.CaptureFormats.{numbers_from, samples_from}
 use Rattle.ht_legacy_blocks.specs.Jobs.{axes_for, diagonals_of, grid_at, row_of, samples_of}
 use Rattle.ht_legacy_blocks.specs.Symbols.{full_of}
 

@@ -22,9 +22,9 @@ use Rattle.ht_feed.specs.Reading.{Counts, CountsCame, GivesCame, Halts}
 use Rattle.ht_heads.specs.Starts.{Over}
 use Rattle.ht_counted.proofs.Counting.{over_is}
 use Rattle.ht_legacy_files.specs.HeadedFormats.{Index}
-use Rattle.ht_legacy_captures.specs.Formats.{captures, captures_due, symbols_due}
-use Rattle.ht_legacy_captures.specs.Items.{LegacyHead, LegacyItem, Begins as BeginsFrame, Symbol}
-use Rattle.ht_legacy_captures.proofs.Routes.{State, behind_is}
+use Rattle.ht_legacy_files.specs.CaptureFormats.{captures, captures_due, symbols_due}
+use Rattle.ht_legacy_files.specs.CaptureItems.{LegacyHead, LegacyItem, Begins as BeginsFrame, Symbol}
+use Rattle.ht_legacy_files.proofs.CaptureRoutes.{State, behind_is}
 use Rattle.ht_legacy_blocks.specs.declared.head.LegacyFrameHead.{LegacyFrameHead}
 use Rattle.ht_legacy_blocks.specs.declared.stage.Stage.{Stage}
 use Rattle.ht_legacy_blocks.specs.declared.stage.Stage.TheVariants.{Start, Due}

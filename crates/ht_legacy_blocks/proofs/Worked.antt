@@ -11,7 +11,7 @@ use Rattle.ht_clause18.specs.Carriers.{carrier_of}
 use Rattle.ht_clause18.specs.Pilots.{pilot_of}
 use Rattle.ht_clause18.specs.Rates.{data_bits_of, modulation_of, symbols_of}
 use Rattle.ht_feed.specs.Items.{Item, frames_of, jobs_of as jobs_among}
-use Rattle.ht_legacy_captures.specs.Items.{LegacyItem, Begins as BeginsFrame, Symbol}
+use Rattle.ht_legacy_files.specs.CaptureItems.{LegacyItem, Begins as BeginsFrame, Symbol}
 use Rattle.ht_legacy_blocks.specs.declared.head.LegacyFrameHead.{LegacyFrameHead}
 use Rattle.ht_legacy_blocks.specs.Frames.{at_first, frames_in, given_from, whole_frames}
 use Rattle.ht_legacy_blocks.specs.Jobs.{SymbolView, diagonals_of, grid_at, job_of, jobs_between, samples_of}

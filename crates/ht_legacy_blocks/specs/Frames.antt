@@ -8,7 +8,7 @@ use Rattle.ht_clause18.specs.declared.rates.LegacyRate.TheVariants.{Mbit6}
 use Rattle.ht_clause18.specs.Carriers.{carriers}
 use Rattle.ht_clause18.specs.Rates.{symbols_of}
 use Rattle.ht_feed.specs.Items.{Item, Begins, One}
-use Rattle.ht_legacy_captures.specs.Items.{LegacyHead, LegacyItem, Begins as BeginsFrame, Symbol}
+use Rattle.ht_legacy_files.specs.CaptureItems.{LegacyHead, LegacyItem, Begins as BeginsFrame, Symbol}
 use Rattle.ht_legacy_blocks.specs.declared.head.LegacyFrameHead.{LegacyFrameHead}
 use Rattle.ht_legacy_blocks.specs.Jobs.{SymbolView, jobs_of}
 

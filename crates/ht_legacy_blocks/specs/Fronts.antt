@@ -5,8 +5,8 @@ use Rattle.ht_io.specs.declared.faults.InFault.{InFault}
 use Rattle.ht_fields.specs.Readers.{reader_in}
 use Rattle.ht_fields.specs.WholeFiles.{ReadsTo}
 use Rattle.ht_clause18.specs.Rates.{symbols_of}
-use Rattle.ht_legacy_captures.specs.Formats.{captures, captures_due, symbols_due}
-use Rattle.ht_legacy_captures.specs.Items.{LegacyHead, Begins}
+use Rattle.ht_legacy_files.specs.CaptureFormats.{captures, captures_due, symbols_due}
+use Rattle.ht_legacy_files.specs.CaptureItems.{LegacyHead, Begins}
 use Rattle.ht_legacy_blocks.specs.declared.fields.Front.{Front}
 use Rattle.ht_legacy_blocks.specs.Jobs.{diagonals_of}
 

@@ -13,7 +13,7 @@ use Rattle.ht_clause18.specs.declared.rates.LegacyRate.{LegacyRate}
 use Rattle.ht_clause18.specs.Carriers.{carriers, carrier_of}
 use Rattle.ht_clause18.specs.Pilots.{pilot_of}
 use Rattle.ht_clause18.specs.Rates.{modulation_of}
-use Rattle.ht_legacy_captures.specs.Formats.{numbers_from, samples_from}
+use Rattle.ht_legacy_files.specs.CaptureFormats.{numbers_from, samples_from}
 use Rattle.ht_legacy_blocks.specs.declared.head.LegacyFrameHead.{LegacyFrameHead}
 
 -- the points of a subcarrier: the constellation where it carries data, and the one point (v, 0) where it is a pilot

@@ -10,7 +10,7 @@ use Rattle.ht_heads.specs.Starts.{StartState}
 use Rattle.ht_feed.specs.Items.{Item, One}
 use Rattle.ht_feed.specs.Reading.{Counts, CountsCame, GivesCame, Halts, view}
 use Rattle.ht_feed.specs.declared.came.Came.{Came}
-use Rattle.ht_legacy_captures.specs.Formats.{CaptureState, captures, symbols_due}
+use Rattle.ht_legacy_files.specs.CaptureFormats.{CaptureState, captures, symbols_due}
 use Rattle.ht_legacy_blocks.specs.declared.head.LegacyFrameHead.{LegacyFrameHead}
 use Rattle.ht_legacy_blocks.specs.declared.stage.Stage.{Stage}
 use Rattle.ht_legacy_blocks.specs.declared.stage.Stage.TheVariants.{Start, Due}

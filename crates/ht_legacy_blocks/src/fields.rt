@@ -3,7 +3,7 @@ ghost use Rattle.std.specs.Prelude.{◌<◌, ◌≤◌, ◌+◌, ◌^◌, [], If
 ghost use Rattle.ht_io.specs.Devices.{IsLater};
 ghost use Rattle.ht_fields.specs.Readers.{reader_in};
 ghost use Rattle.ht_fields.specs.WholeFiles.{ReadsTo};
-ghost use Rattle.ht_legacy_captures.specs.Formats.{captures, captures_due};
+ghost use Rattle.ht_legacy_files.specs.CaptureFormats.{captures, captures_due};
 ghost use Rattle.ht_legacy_blocks.specs.Fronts.{TellsFront};
 
 use crate::symbol::DIAGONALS;

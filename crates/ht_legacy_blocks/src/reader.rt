@@ -6,7 +6,7 @@ ghost use Rattle.ht_fields.specs.Meanings.{meaning};
 ghost use Rattle.ht_fields.specs.Readers.{Gives, Completes};
 ghost use Rattle.ht_feed.specs.Items.{Begins, One};
 ghost use Rattle.ht_feed.specs.Reading.{CountsBlock, CountsHead, Halts};
-ghost use Rattle.ht_legacy_captures.specs.Formats.{captures};
+ghost use Rattle.ht_legacy_files.specs.CaptureFormats.{captures};
 ghost use Rattle.ht_legacy_blocks.specs.Frames.{mapped};
 ghost use Rattle.ht_legacy_blocks.specs.Readers.{ReadsItems, ReadsOn, has_begun, legacy_at, legacy_counts, legacy_means, seen};
 

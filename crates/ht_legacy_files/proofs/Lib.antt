@@ -4,3 +4,5 @@ pub mod HeadEnds
 pub mod HeadRoutes
 pub mod Routes
 mod Values
+pub mod CaptureEnds
+pub mod CaptureRoutes

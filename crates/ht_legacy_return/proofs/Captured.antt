@@ -9,9 +9,9 @@ use Rattle.ht_clause18.specs.Points.{points_of, sent_points}
 use Rattle.ht_clause18.proofs.Sent.{length-sent_points}
 use Rattle.ht_legacy_files.specs.Files.{AreFrames, IsFrame, frames_file_of}
 use Rattle.ht_legacy_files.proofs.Routes.{frames_same}
-use Rattle.ht_legacy_captures.specs.Files.{AreCaptures, IsCapture, captures_file_of, items_of}
-use Rattle.ht_legacy_captures.specs.Formats.{captures}
-use Rattle.ht_legacy_captures.proofs.Routes.{captures_written}
+use Rattle.ht_legacy_files.specs.CaptureFiles.{AreCaptures, IsCapture, captures_file_of, items_of}
+use Rattle.ht_legacy_files.specs.CaptureFormats.{captures}
+use Rattle.ht_legacy_files.proofs.CaptureRoutes.{captures_written}
 use Rattle.ht_sim.specs.Channel.{sample_drawn}
 use Rattle.ht_sim.specs.Draws.{each, several}
 use Rattle.ht_sim.specs.Words.{first, word}

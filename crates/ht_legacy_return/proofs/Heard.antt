@@ -35,7 +35,7 @@ use Rattle.ht_clause18.specs.Rates.{label_bits_of, modulation_of, symbols_of}
 use Rattle.ht_data.proofs.Written.{written-below}
 use Rattle.ht_clause18.proofs.RateFacts.{label_bits_of-is}
 use Rattle.ht_clause18.proofs.Sent.{length-sent_points, sent_points-at}
-use Rattle.ht_legacy_captures.specs.Files.{LegacyCapture}
+use Rattle.ht_legacy_files.specs.CaptureFiles.{LegacyCapture}
 use Rattle.ht_legacy_sim.specs.Drawing.{exact_from}
 use Rattle.ht_legacy_blocks.specs.Frames.{Course, behind_symbol, symbol_at}
 use Rattle.ht_legacy_blocks.specs.Jobs.{SymbolView, axes_for, grid_at, job_of, jobs_between, jobs_of}

@@ -15,7 +15,7 @@ use Rattle.ht_counted.specs.Framed.{framed_octets}
 use Rattle.ht_legacy_files.specs.Files.{AreFrames, frames_file_of}
 use Rattle.ht_legacy_files.specs.Formats.{frames as frames_format, frames_magic, framing}
 use Rattle.ht_legacy_files.proofs.Back.{of_frames}
-use Rattle.ht_legacy_captures.specs.Files.{captures_file_of}
+use Rattle.ht_legacy_files.specs.CaptureFiles.{captures_file_of}
 use Rattle.ht_sim.specs.Draws.{several}
 use Rattle.ht_sim.specs.Words.{first}
 use Rattle.ht_sim.proofs.Drawing.{All-several, length-several}

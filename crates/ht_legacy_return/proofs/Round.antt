@@ -27,10 +27,10 @@ use Rattle.ht_clause18.specs.Points.{points_of, sent_points}
 use Rattle.ht_clause18.specs.Rates.{symbols_of}
 use Rattle.ht_clause18.proofs.Sent.{length-sent_points}
 use Rattle.ht_legacy_files.specs.Files.{AreFrames, IsFrame}
-use Rattle.ht_legacy_captures.specs.Files.{AreCaptures, IsCapture, LegacyCapture, captures_file_of, items_of, symbols_from}
-use Rattle.ht_legacy_captures.specs.Formats.{captures}
-use Rattle.ht_legacy_captures.specs.Items.{LegacyItem}
-use Rattle.ht_legacy_captures.proofs.Routes.{captures_written}
+use Rattle.ht_legacy_files.specs.CaptureFiles.{AreCaptures, IsCapture, LegacyCapture, captures_file_of, items_of, symbols_from}
+use Rattle.ht_legacy_files.specs.CaptureFormats.{captures}
+use Rattle.ht_legacy_files.specs.CaptureItems.{LegacyItem}
+use Rattle.ht_legacy_files.proofs.CaptureRoutes.{captures_written}
 use Rattle.ht_results.specs.declared.frame_result.FrameResult.{FrameResult}
 use Rattle.ht_results.specs.Plans.{distances, kept_by_place, on_data_by}
 use Rattle.ht_results.specs.Texts.{result_lines}

@@ -4,7 +4,7 @@ use Rattle.ht_metric.specs.Distance.{received}
 use Rattle.ht_clause18.specs.Carriers.{carriers}
 use Rattle.ht_clause18.specs.Frames.{LegacyFrameView}
 use Rattle.ht_clause18.specs.Points.{sent_points}
-use Rattle.ht_legacy_captures.specs.Files.{LegacyCapture}
+use Rattle.ht_legacy_files.specs.CaptureFiles.{LegacyCapture}
 use Rattle.ht_legacy_sim.specs.Drawing.{exact_from}
 use Rattle.ht_round.specs.Exact.{PairByPair}
 

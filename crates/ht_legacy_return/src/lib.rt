@@ -1,6 +1,6 @@
 //! The law of return for clause 18 frames (IEEE Std 802.11-2012): why their receiver is right.
 //!
-//! `ht_clause18` says which points are sent of a frame, `ht_legacy_captures` which octets a capture of samples has,
+//! `ht_clause18` says which points are sent of a frame, `ht_legacy_files` which octets a capture of samples has,
 //! and `ht_legacy_rx` what the receiver makes of any octets. The laws of [`laws`] join the three definitions: where
 //! each sample is exactly a diagonal times the point that was sent, and no diagonal is 0, the receiver gives each
 //! frame's own octets, at distance 0, and no bit of a codeword differs. The same holds for what passes the simulated

@@ -17,7 +17,7 @@ use Rattle.ht_feed.specs.Items.{headed, headed_of}
 use Rattle.ht_results.specs.declared.frame_result.FrameResult.{FrameResult}
 use Rattle.ht_results.specs.Plans.{Follows, IsPlaced, begun_by, given_from, under_way, with_kind_by}
 use Rattle.ht_results.proofs.Counted.{all_end, all_give, given_from-append, part_gives}
-use Rattle.ht_legacy_captures.specs.Items.{LegacyItem, Begins as BeginsFrame, Symbol}
+use Rattle.ht_legacy_files.specs.CaptureItems.{LegacyItem, Begins as BeginsFrame, Symbol}
 use Rattle.ht_legacy_blocks.specs.declared.head.LegacyFrameHead.{LegacyFrameHead}
 use Rattle.ht_legacy_blocks.specs.Frames.{Course, LegacyFrameJobs, at_first, behind_head, behind_symbol, frames_in, given_from as items_from, has_all_jobs}
 use Rattle.ht_legacy_blocks.specs.Frames.{head_of, jobs_first, symbol_at, symbols_in}

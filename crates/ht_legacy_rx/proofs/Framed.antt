@@ -13,9 +13,9 @@ use Rattle.ht_heads.specs.Starts.{StartState, Magic, Version, Count, Body, Over,
 use Rattle.ht_clause18.specs.Rates.{symbols_of}
 use Rattle.ht_legacy_files.specs.HeadedFormats.{Index, Length, Behind, behind_head, good_index, good_length, headed, length_limits}
 use Rattle.ht_counted.specs.Counted.{counted_format, entries_due}
-use Rattle.ht_legacy_captures.specs.Formats.{CaptureState, Diagonals, Samples, captures, captured, captures_due, symbols_due}
-use Rattle.ht_legacy_captures.specs.Formats.{good_diagonals, good_samples}
-use Rattle.ht_legacy_captures.specs.Items.{LegacyItem, Begins, Symbol}
+use Rattle.ht_legacy_files.specs.CaptureFormats.{CaptureState, Diagonals, Samples, captures, captured, captures_due, symbols_due}
+use Rattle.ht_legacy_files.specs.CaptureFormats.{good_diagonals, good_samples}
+use Rattle.ht_legacy_files.specs.CaptureItems.{LegacyItem, Begins, Symbol}
 use Rattle.ht_legacy_rx.specs.Texts.{legacy_meaning}
 
 -- a frame has 1 to 4095 octets

@@ -8,7 +8,7 @@ use Rattle.ht_clause18.specs.Carriers.{carriers}
 use Rattle.ht_capture_laws.proofs.Lists.{all_append}
 use Rattle.ht_results.proofs.Places.{Rising, lower, rising_append}
 use Rattle.ht_feed.specs.Items.{Begins, Headed, Item, One, headed, headed_of}
-use Rattle.ht_legacy_captures.specs.Items.{LegacyItem, Begins as BeginsFrame, Symbol}
+use Rattle.ht_legacy_files.specs.CaptureItems.{LegacyItem, Begins as BeginsFrame, Symbol}
 use Rattle.ht_legacy_blocks.specs.declared.head.LegacyFrameHead.{LegacyFrameHead}
 use Rattle.ht_legacy_blocks.specs.Frames.{Course, LegacyFrameJobs, behind_symbol, frames_in, given_from, jobs_first, symbol_at}
 use Rattle.ht_legacy_blocks.specs.Jobs.{SymbolView, job_of, jobs_between, jobs_of}

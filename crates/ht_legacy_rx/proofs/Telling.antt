@@ -8,10 +8,10 @@ use Rattle.ht_runs.proofs.Streaming.{lined}
 use Rattle.ht_feed.specs.declared.ended.Ended.{Ended}
 use Rattle.ht_feed.specs.Inputs.{TellsInput}
 use Rattle.ht_feed.specs.Items.{Item}
-use Rattle.ht_endings.specs.Endings.{EndsLines, IsTold, MeansFrames, end_as, seen_as}
+use Rattle.ht_receive.specs.Endings.{EndsLines, IsTold, MeansFrames, end_as, seen_as}
 use Rattle.ht_frames.specs.Gathering.{booked_in}
 use Rattle.ht_results.specs.Texts.{result_line, result_lines}
-use Rattle.ht_legacy_captures.specs.Formats.{captures}
+use Rattle.ht_legacy_files.specs.CaptureFormats.{captures}
 use Rattle.ht_legacy_blocks.specs.declared.head.LegacyFrameHead.{LegacyFrameHead}
 use Rattle.ht_receive.specs.Ends.{StreamsText}
 use Rattle.ht_receive.specs.Receiving.{books}

@@ -4,8 +4,8 @@ use Rattle.ht_fields.specs.Meanings.{Meaning, meaning}
 use Rattle.ht_text.specs.Lines.{end_text}
 use Rattle.ht_runs.specs.Formats.{lines_by, text_by}
 use Rattle.ht_feed.specs.Items.{Item, frames_of}
-use Rattle.ht_legacy_captures.specs.Formats.{captures}
-use Rattle.ht_legacy_captures.specs.Items.{LegacyItem}
+use Rattle.ht_legacy_files.specs.CaptureFormats.{captures}
+use Rattle.ht_legacy_files.specs.CaptureItems.{LegacyItem}
 use Rattle.ht_legacy_blocks.specs.declared.head.LegacyFrameHead.{LegacyFrameHead}
 use Rattle.ht_legacy_blocks.specs.Frames.{at_first, given_from, whole_frames}
 use Rattle.ht_results.specs.declared.frame_result.FrameResult.{FrameResult}

@@ -1,13 +1,13 @@
 //! Receiving the frames of a capture as lines of text.
 ghost use Rattle.ht_feed.specs.Limits.{IsCrewSize, IsWindowSize};
 ghost use Rattle.ht_runs.specs.Formats.{filter};
-ghost use Rattle.ht_endings.specs.Endings.{MeansFrames};
-ghost use Rattle.ht_legacy_captures.specs.Formats.{captures};
+ghost use Rattle.ht_receive.specs.Endings.{MeansFrames};
+ghost use Rattle.ht_legacy_files.specs.CaptureFormats.{captures};
 ghost use Rattle.ht_receive.specs.Ends.{StreamsText};
 ghost use Rattle.ht_legacy_rx.specs.Texts.{legacy_items, legacy_lines_of, legacy_text};
 
 use crate::labels::LegacyLabels;
-use ht_endings::put_end;
+use ht_receive::put_end;
 use ht_feed::Gate;
 use ht_frames::{BesideFrames, Frame, Frames, Kind, TallyWork, TextBook};
 use ht_io::{Sink, Source};

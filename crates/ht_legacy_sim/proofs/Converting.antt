@@ -11,7 +11,7 @@ use Rattle.ht_clause18.specs.Frames.{LegacyFrameView}
 use Rattle.ht_legacy_files.specs.Files.{AreFrames, frames_file_of}
 use Rattle.ht_legacy_files.specs.Formats.{frames as frames_format}
 use Rattle.ht_legacy_files.proofs.Routes.{frames_written}
-use Rattle.ht_legacy_captures.specs.Files.{captures_file_of}
+use Rattle.ht_legacy_files.specs.CaptureFiles.{captures_file_of}
 use Rattle.ht_legacy_sim.specs.Drawing.{captures_of}
 use Rattle.ht_legacy_sim.specs.Passing.{PassesTo, passing}
 

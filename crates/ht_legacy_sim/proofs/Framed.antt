@@ -9,8 +9,8 @@ use Rattle.ht_clause18.specs.Carriers.{carriers}
 use Rattle.ht_clause18.specs.Frames.{LegacyFrameView}
 use Rattle.ht_clause18.specs.Points.{sent_points}
 use Rattle.ht_heads.specs.Starts.{started_octets}
-use Rattle.ht_legacy_captures.specs.Files.{LegacyCapture, capture_octets, captures_file_of, head_octets}
-use Rattle.ht_legacy_captures.specs.Formats.{captures_magic}
+use Rattle.ht_legacy_files.specs.CaptureFiles.{LegacyCapture, capture_octets, captures_file_of, head_octets}
+use Rattle.ht_legacy_files.specs.CaptureFormats.{captures_magic}
 use Rattle.ht_sim.specs.Channel.{sample_drawn}
 use Rattle.ht_sim.specs.Draws.{Drawn, drawn, each, several}
 use Rattle.ht_sim.specs.Words.{first}

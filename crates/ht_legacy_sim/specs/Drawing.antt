@@ -6,7 +6,7 @@ use Rattle.ht_metric.specs.Distance.{scaled}
 use Rattle.ht_clause18.specs.Carriers.{carriers}
 use Rattle.ht_clause18.specs.Frames.{LegacyFrameView}
 use Rattle.ht_clause18.specs.Points.{sent_points}
-use Rattle.ht_legacy_captures.specs.Files.{LegacyCapture}
+use Rattle.ht_legacy_files.specs.CaptureFiles.{LegacyCapture}
 use Rattle.ht_sim.specs.Channel.{diagonal_of, sample_drawn}
 use Rattle.ht_sim.specs.Draws.{Drawn, drawn, each, several}
 use Rattle.ht_sim.specs.Words.{first, next, word}

@@ -5,7 +5,7 @@ use Rattle.ht_runs.specs.Filters.{Conversion, WithinOutput}
 use Rattle.ht_runs.specs.Formats.{conversion}
 use Rattle.ht_legacy_files.specs.Files.{AreFrames, frames_file_of}
 use Rattle.ht_legacy_files.specs.Formats.{frames as frames_format}
-use Rattle.ht_legacy_captures.specs.Files.{captures_file_of}
+use Rattle.ht_legacy_files.specs.CaptureFiles.{captures_file_of}
 use Rattle.ht_legacy_sim.specs.Drawing.{captures_of}
 
 -- a file of frames, and the capture of what is sent of them, passed with this seed and this noise

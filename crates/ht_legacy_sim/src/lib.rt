@@ -3,7 +3,7 @@
 //! `legacy_channel` reads a file of frames (LGTX, crate `ht_legacy_files`) to its end. It sends each frame (crate
 //! `ht_clause18`), and passes its points through the channel that a seed makes: each of the 52 subcarriers gets a diagonal
 //! from 64 to 255, and a sample is the diagonal times the point, with noise whose parts are at most a given number. It puts
-//! the capture of them (LGCP, crate `ht_legacy_captures`), frame after frame.
+//! the capture of them (LGCP, crate `ht_legacy_files`), frame after frame.
 //!
 //! The words are those of crate `ht_sim`, in its order for one stream: for each frame a word for each diagonal, the lowest
 //! subcarrier's first, and then for each sample, in the order symbol, subcarrier, a word for the real part of its noise and

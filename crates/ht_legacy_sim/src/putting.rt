@@ -6,7 +6,7 @@ ghost use Rattle.ht_capture.specs.Files.{sample_octets};
 ghost use Rattle.ht_clause18.specs.Carriers.{carriers};
 ghost use Rattle.ht_sim.specs.Channel.{sample_drawn};
 ghost use Rattle.ht_sim.specs.Draws.{each};
-ghost use Rattle.ht_legacy_captures.specs.Files.{capture_octets, captures_file_of};
+ghost use Rattle.ht_legacy_files.specs.CaptureFiles.{capture_octets, captures_file_of};
 ghost use Rattle.ht_legacy_sim.specs.Drawing.{capture_drawn, captures_of, exact_from};
 
 use crate::drawing::{diagonals, fill};
@@ -14,7 +14,7 @@ use ht_clause18::{LegacyFrame, legacy_transmit};
 use ht_fields::Chunk;
 use ht_heads::start_of;
 use ht_io::{Failed, Sink};
-use ht_legacy_captures::add_head;
+use ht_legacy_files::add_head;
 use ht_pam::Point;
 use ht_runs::RunFault;
 use ht_sim::Words;

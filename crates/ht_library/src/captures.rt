@@ -1,6 +1,6 @@
 //! Captures in memory, and the texts that the program's receivers write for them.
 ghost use Rattle.ht_capture.specs.Fields.{captures};
-ghost use Rattle.ht_legacy_captures.specs.Formats.{captures as legacy_captures};
+ghost use Rattle.ht_legacy_files.specs.CaptureFormats.{captures as legacy_captures};
 ghost use Rattle.ht_results.specs.JobTexts.{detect_text, lines_of};
 ghost use Rattle.ht_results.specs.Texts.{frame_lines_of, rx_text};
 ghost use Rattle.ht_soft_rx.specs.Texts.{soft_lines_of, soft_rx_text};

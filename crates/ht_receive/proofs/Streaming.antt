@@ -13,9 +13,9 @@ use Rattle.ht_feed.specs.declared.ended.Ended.{Ended}
 use Rattle.ht_feed.specs.Inputs.{TellsInput}
 use Rattle.ht_feed.specs.Items.{Headed, Item}
 use Rattle.ht_frames.specs.Gathering.{booked_in}
-use Rattle.ht_endings.specs.Endings.{EndsLines, IsTold, MeansFrames, seen_as}
-use Rattle.ht_endings.proofs.Endings.{ends}
-use Rattle.ht_endings.proofs.Nothing.{nothing_put}
+use Rattle.ht_receive.specs.Endings.{EndsLines, IsTold, MeansFrames, seen_as}
+use Rattle.ht_receive.proofs.Endings.{ends}
+use Rattle.ht_receive.proofs.Nothing.{nothing_put}
 use Rattle.ht_receive.specs.Ends.{StreamsText}
 use Rattle.ht_receive.specs.Receiving.{books}
 

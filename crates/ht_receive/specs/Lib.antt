@@ -1,2 +1,3 @@
 pub mod Receiving
 pub mod Ends
+pub mod Endings

@@ -8,7 +8,7 @@
 //!
 //! What is booked for an input is defined by the jobs that its reader gives: `booked_in` of crate `ht_frames`, of the
 //! results that the frame under way makes of them. The caller says which results of the octets these are. Where a `TextBook`
-//! puts their lines, and `put_end` of crate `ht_endings` the end line after them, `streams` in `proofs/Streaming.antt` shows
+//! puts their lines, and [`put_end`] the end line after them, `streams` in `proofs/Streaming.antt` shows
 //! that all that was put is the text of a format (`StreamsText` in `specs/Ends.antt`).
 //!
 //! Say a frame is whole with its second job, its result is the sum of the two distances, and its line is that number. Of an
@@ -19,8 +19,17 @@
 //! 4
 //! end 2 frames
 //! ```
+//!
+//! Any run over blocks that puts lines while it reads ends so, lists of jobs too. A run of `tell_alone` of crate `ht_feed`, or
+//! of a drive, answers how it ended, and its account put the lines of what is whole. [`put_end`] puts the last line if the
+//! input was whole, and answers the number of its frames; if the input has a fault nothing more is put, and the caller puts
+//! the line of the fault. What both calls promise together is said once for every format, every reader of blocks and every
+//! account: it is `Streamed` of crate `ht_runs` of the format's filter (`IsTold` of `specs/Endings.antt`, and `ends` of
+//! `proofs/Endings.antt`).
 #![tactic(auto)]
 
+mod putting;
 mod receiving;
 
+pub use putting::put_end;
 pub use receiving::{receive, receive_alone};

@@ -24,7 +24,7 @@ use Rattle.ht_capture_blocks.specs.Captures.{items_of, mapped}
 use Rattle.ht_feed.specs.Items.{Item, Begins, One}
 use Rattle.ht_feed.specs.Items.{headed as block_headed, headed_of, frames_of as block_frames, jobs_of as block_jobs}
 use Rattle.ht_feed.specs.Outcomes.{Comes, StopsAs as BlockStops, EndsWhole as BlockWhole}
-use Rattle.ht_endings.proofs.Runs.{broken, from_front, front, in_part, refused, whole}
+use Rattle.ht_receive.proofs.Runs.{broken, from_front, front, in_part, refused, whole}
 use Rattle.ht_results.specs.Heads.{Headed, headed, headed_jobs}
 use Rattle.ht_results.specs.Texts.{frames_of}
 use Rattle.ht_results.proofs.Folded.{headed_is}

@@ -17,8 +17,8 @@ use Rattle.ht_runs.specs.declared.faults.RunFault.TheVariants.{Format, Read, Wri
 use Rattle.ht_runs.proofs.Streaming.{stopped}
 use Rattle.ht_feed.specs.declared.ended.Ended.{Ended}
 use Rattle.ht_text.specs.Lines.{end_text}
-use Rattle.ht_endings.specs.Endings.{EndsLines}
-use Rattle.ht_endings.proofs.EndLines.{PutsLines, with_end}
+use Rattle.ht_receive.specs.Endings.{EndsLines}
+use Rattle.ht_receive.proofs.EndLines.{PutsLines, with_end}
 use Rattle.ht_receive.specs.Ends.{StreamsText}
 use Rattle.ht_receive.proofs.Streaming.{with_end_line}
 use Rattle.ht_rx.specs.Frames.{booked_of}

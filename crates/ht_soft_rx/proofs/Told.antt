@@ -11,7 +11,7 @@ use Rattle.ht_capture.specs.Captures.{capture_of}
 use Rattle.ht_capture.specs.Fields.{captures}
 use Rattle.ht_capture_blocks.specs.Captures.{items_of, mapped}
 use Rattle.ht_capture_laws.specs.Items.{whole_frames}
-use Rattle.ht_endings.specs.Endings.{EndsLines, IsTold, MeansFrames, end_as}
+use Rattle.ht_receive.specs.Endings.{EndsLines, IsTold, MeansFrames, end_as}
 use Rattle.ht_feed.specs.declared.ended.Ended.{Ended}
 use Rattle.ht_feed.specs.Inputs.{TellsInput}
 use Rattle.ht_feed.specs.Items.{Item, frames_of as block_frames, headed as block_headed, headed_of}

@@ -15,8 +15,8 @@ use Rattle.ht_cli.specs.Tasks.{plan_of}
 use Rattle.ht_cli.proofs.Answering.{converts, streams}
 use Rattle.ht_capture.specs.Fields.{captures}
 use Rattle.ht_runs.specs.Formats.{filter}
-use Rattle.ht_endings.specs.Endings.{MeansFrames}
-use Rattle.ht_legacy_captures.specs.Formats.{captures as legacy_captures}
+use Rattle.ht_receive.specs.Endings.{MeansFrames}
+use Rattle.ht_legacy_files.specs.CaptureFormats.{captures as legacy_captures}
 use Rattle.ht_legacy_rx.specs.Texts.{legacy_items, legacy_lines_of, legacy_text}
 use Rattle.ht_soft_rx.specs.Texts.{soft_lines_of, soft_rx_text}
 use Rattle.ht_several.specs.Bundles.{receiving}

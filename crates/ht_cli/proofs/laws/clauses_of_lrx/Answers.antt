@@ -1,4 +1,4 @@
-use Rattle.ht_legacy_captures.specs.Formats.{captures}
+use Rattle.ht_legacy_files.specs.CaptureFormats.{captures}
 use Rattle.ht_legacy_rx.specs.Texts.{legacy_lines_of, legacy_text}
 use Rattle.ht_cli.proofs.Saying.{text_broken_off, text_done, text_known, text_known_refused, text_memory, text_part, text_refused}
 use Rattle.ht_cli.proofs.laws.clauses_of_lrx.Goals as goal

@@ -1,6 +1,6 @@
 use Rattle.std.proofs.Common.{arith, rules}
 use Rattle.ht_legacy_files.proofs.HeadRoutes.{length_halts, rate_halts}
-use Rattle.ht_legacy_captures.specs.Formats.{captured}
+use Rattle.ht_legacy_files.specs.CaptureFormats.{captured}
 use Rattle.ht_legacy_blocks.proofs.Fronts.{diagonals_halts, front_gives}
 use Rattle.ht_legacy_blocks.proofs.fields.frame_front.Goals as goal
 

@@ -3,7 +3,7 @@ use Rattle.ht_io.specs.Devices.{Takes}
 use Rattle.ht_heads.specs.declared.starting.Limits.{Limits}
 use Rattle.ht_heads.specs.Starts.{StartedFails, started_octets}
 use Rattle.ht_counted.specs.Counted.{frame_limits}
-use Rattle.ht_legacy_captures.specs.Formats.{captures_magic}
+use Rattle.ht_legacy_files.specs.CaptureFormats.{captures_magic}
 use Rattle.ht_legacy_blocks.proofs.Fronts.{start_gives, start_halts}
 use Rattle.ht_legacy_blocks.proofs.fields.start.Goals as goal
 

@@ -1,5 +1,5 @@
 use Rattle.std.proofs.Common.{rules, ap}
-use Rattle.ht_endings.specs.Endings.{EndsLines}
+use Rattle.ht_receive.specs.Endings.{EndsLines}
 use Rattle.ht_legacy_rx.proofs.Telling.{streamed}
 use Rattle.ht_legacy_rx.proofs.receiving.legacy_receive.Goals as goal
 

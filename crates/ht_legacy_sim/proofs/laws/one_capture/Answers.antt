@@ -1,7 +1,7 @@
 use Rattle.std.proofs.Common.{◌≡◌, ℕ, List, sym, ap, ◌∙◌}
 use Rattle.ht_clause18.specs.Frames.{LegacyFrameView}
 use Rattle.ht_legacy_files.proofs.Routes.{frames_same}
-use Rattle.ht_legacy_captures.specs.Files.{captures_file_of}
+use Rattle.ht_legacy_files.specs.CaptureFiles.{captures_file_of}
 use Rattle.ht_legacy_sim.specs.Drawing.{captures_of}
 use Rattle.ht_legacy_sim.specs.Passing.{PassesTo}
 use Rattle.ht_legacy_sim.proofs.laws.one_capture.Goals as goal

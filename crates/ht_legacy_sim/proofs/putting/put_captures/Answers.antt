@@ -9,8 +9,8 @@ use Rattle.ht_heads.specs.Heads.{start_octets}
 use Rattle.ht_heads.specs.Starts.{started_octets}
 use Rattle.ht_sim.specs.Draws.{Drawn, each}
 use Rattle.ht_sim.specs.Words.{first}
-use Rattle.ht_legacy_captures.specs.Files.{capture_octets}
-use Rattle.ht_legacy_captures.specs.Formats.{captures_magic}
+use Rattle.ht_legacy_files.specs.CaptureFiles.{capture_octets}
+use Rattle.ht_legacy_files.specs.CaptureFormats.{captures_magic}
 use Rattle.ht_legacy_sim.specs.Drawing.{capture_drawn}
 use Rattle.ht_legacy_sim.proofs.Drawn.{behind, behind-end, behind-step}
 use Rattle.ht_legacy_sim.proofs.Framed.{next_is, next_put, whole_file}

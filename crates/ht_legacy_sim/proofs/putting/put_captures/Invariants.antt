@@ -3,8 +3,8 @@ use Rattle.ht_io.specs.Devices.{Grows, IsLater}
 use Rattle.ht_heads.specs.Starts.{started_octets}
 use Rattle.ht_sim.specs.Draws.{each}
 use Rattle.ht_sim.specs.Words.{first}
-use Rattle.ht_legacy_captures.specs.Files.{capture_octets}
-use Rattle.ht_legacy_captures.specs.Formats.{captures_magic}
+use Rattle.ht_legacy_files.specs.CaptureFiles.{capture_octets}
+use Rattle.ht_legacy_files.specs.CaptureFormats.{captures_magic}
 use Rattle.ht_legacy_sim.specs.Drawing.{capture_drawn}
 use Rattle.ht_legacy_sim.proofs.Drawn.{behind}
 use Rattle.ht_legacy_sim.proofs.putting.put_captures.Given as goal

@@ -1,5 +1,5 @@
 use Rattle.std.proofs.Common.{rules, ap}
-use Rattle.ht_endings.specs.Endings.{EndsLines}
+use Rattle.ht_receive.specs.Endings.{EndsLines}
 use Rattle.ht_rx.proofs.Texts.{received}
 use Rattle.ht_rx.proofs.receiving_text.receive_text.Goals as goal
 

@@ -1,5 +1,5 @@
 use Rattle.std.proofs.Common.{rules, ap}
-use Rattle.ht_endings.specs.Endings.{EndsLines}
+use Rattle.ht_receive.specs.Endings.{EndsLines}
 use Rattle.ht_soft_rx.proofs.Told.{finished}
 use Rattle.ht_soft_rx.proofs.receiving.receive_soft_alone.Goals as goal
 

@@ -2,8 +2,8 @@ use Rattle.std.proofs.Common.{◌≡◌, ◌<◌, ◌+◌, ◌-◌, ℕ, ap, sub
 use Rattle.ht_clause18.specs.Rates.{symbols_of}
 use Rattle.ht_fields.specs.Readers.{reader_in}
 use Rattle.ht_fields.specs.WholeFiles.{StopsWithCause}
-use Rattle.ht_legacy_captures.specs.Formats.{captures, captures_due, symbols_due}
-use Rattle.ht_legacy_captures.specs.Items.{LegacyHead}
+use Rattle.ht_legacy_files.specs.CaptureFormats.{captures, captures_due, symbols_due}
+use Rattle.ht_legacy_files.specs.CaptureItems.{LegacyHead}
 use Rattle.ht_legacy_blocks.specs.declared.stage.Stage.TheVariants.{Due}
 use Rattle.ht_legacy_blocks.specs.Frames.{head_of}
 use Rattle.ht_legacy_blocks.specs.Jobs.{diagonals_of}

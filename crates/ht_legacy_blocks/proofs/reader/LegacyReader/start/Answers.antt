@@ -1,7 +1,7 @@
 use Rattle.std.proofs.Common.{◌≡◌, [], ℕ, sym, ap, subst, ◌∙◌, refl}
 use Rattle.ht_fields.specs.Readers.{Gives, reader_in}
 use Rattle.ht_fields.specs.WholeFiles.{StopsWithCause}
-use Rattle.ht_legacy_captures.specs.Formats.{captures, captures_due}
+use Rattle.ht_legacy_files.specs.CaptureFormats.{captures, captures_due}
 use Rattle.std.specs.Arc.{arc_value}
 use Rattle.ht_legacy_blocks.specs.declared.stage.Stage.TheVariants.{Due}
 use Rattle.ht_legacy_blocks.specs.Jobs.{diagonals_of}

@@ -2,7 +2,7 @@ use Rattle.std.proofs.Common.{◌≡◌, ◌<◌, ◌+◌, ◌-◌, ℕ, length,
 use Rattle.std.specs.Arc.{arc_value}
 use Rattle.ht_fields.specs.Readers.{reader_in}
 use Rattle.ht_fields.specs.WholeFiles.{StopsWithCause}
-use Rattle.ht_legacy_captures.specs.Formats.{captures, symbols_due}
+use Rattle.ht_legacy_files.specs.CaptureFormats.{captures, symbols_due}
 use Rattle.ht_legacy_blocks.specs.declared.stage.Stage.TheVariants.{Due}
 use Rattle.ht_legacy_blocks.specs.Frames.{Course}
 use Rattle.ht_legacy_blocks.specs.Jobs.{diagonals_of, samples_of}

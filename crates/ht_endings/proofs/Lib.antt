@@ -1,4 +1,0 @@
-pub mod Runs
-pub mod EndLines
-pub mod Endings
-pub mod Nothing

@@ -1,3 +1,0 @@
-pub mod Items
-pub mod Formats
-pub mod Files
