@@ -3,7 +3,7 @@ use Rattle.std.proofs.lemmas.List.{take_all}
 use Rattle.byteorder.specs.Endian.{big_bytes}
 use Rattle.ht_clause18.specs.Rates.{index_of}
 use Rattle.ht_legacy_files.specs.CaptureFiles.{head_octets}
-use Rattle.ht_legacy_files.proofs.writing.add_head.Goals as goal
+use Rattle.ht_legacy_files.proofs.capture_writing.add_head.Goals as goal
 
 pub returns : goal.returns
 unfolding head_octets

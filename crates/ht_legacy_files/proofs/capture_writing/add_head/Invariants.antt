@@ -1,7 +1,7 @@
 use Rattle.std.proofs.Common.{◌≡◌, ◌+◌, ◌*◌, ◌∷◌, ◌++◌, length, take, flat_map}
 use Rattle.byteorder.specs.Endian.{big_bytes}
 use Rattle.ht_clause18.specs.Rates.{index_of}
-use Rattle.ht_legacy_files.proofs.writing.add_head.Given as goal
+use Rattle.ht_legacy_files.proofs.capture_writing.add_head.Given as goal
 
 -- this many diagonals are there
 abbrev pub invariant-loop-diagonal : goal.invariant-loop-diagonal
