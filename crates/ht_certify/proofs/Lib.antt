@@ -7,3 +7,8 @@ pub mod Numberless
 pub mod Passing
 pub mod Shown
 mod Worked
+pub mod Lists
+pub mod Ending
+pub mod Stepping
+pub mod Accepting
+mod CheckWorked

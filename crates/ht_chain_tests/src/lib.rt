@@ -5,7 +5,8 @@
 //! worked examples, on the longest lengths, on what they refuse, and on words and frames with errors. The modules' comments
 //! say where expected values come from: `rate` and `scramble` have values of the standard, `clause18` those of its annex
 //! L.1, `interleave` values from outside, and `soft` what other programs found. `viterbi` tries all inputs of short words
-//! in turn, and holds its decoders against each other.
+//! in turn, and holds its decoders against each other. `weighing` holds all weights of a job that one search finds against those
+//! of the two halves of each label bit, of which every vector is tried.
 //!
 //! These tests have a crate of their own because a check of tests proves their whole crate once more.
 #![tactic(auto)]
@@ -53,3 +54,5 @@ mod legacy_inverse;
 mod soft;
 #[cfg(test)]
 mod viterbi;
+#[cfg(test)]
+mod weighing;

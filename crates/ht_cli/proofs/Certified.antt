@@ -56,8 +56,8 @@ use Rattle.ht_cert.specs.Files.{AreNumbered, ArePoints, AreRecords, IsRecord}
 use Rattle.ht_cert.specs.Formats.{certificates}
 use Rattle.ht_cert.specs.Records.{full_grid}
 use Rattle.ht_cert.proofs.Filed.{file_written}
-use Rattle.ht_check.specs.Checks.{all_yes_text, check_text}
-use Rattle.ht_check.proofs.Accepting.{Holds, accepts}
+use Rattle.ht_certify.specs.Checks.{all_yes_text, check_text}
+use Rattle.ht_certify.proofs.Accepting.{Holds, accepts}
 use Rattle.ht_witness.proofs.Trusting.{checked_near}
 use Rattle.ht_certify.specs.declared.subcarriers.Subcarrier.{Subcarrier}
 use Rattle.ht_certify.specs.Certifying.{CertifiesTo, certified, record_for, record_of, records_behind, records_of}

@@ -12,7 +12,7 @@ use Rattle.ht_cert.specs.Files.{certificates_file_of}
 use Rattle.ht_cert.specs.Formats.{certificates}
 use Rattle.ht_cert.specs.declared.record.Record.{Record}
 use Rattle.ht_certify.specs.Certifying.{CertifiesTo, certified}
-use Rattle.ht_check.specs.Checks.{all_yes_text, check_lines, check_text}
+use Rattle.ht_certify.specs.Checks.{all_yes_text, check_lines, check_text}
 use Rattle.ht_words.specs.declared.asked.Asked.TheVariants.{Certify, Check}
 use Rattle.ht_cli.specs.declared.status.Status.TheVariants.{Done, Refused, NoMemory}
 use Rattle.ht_cli.specs.Streaming.{IsCapture}

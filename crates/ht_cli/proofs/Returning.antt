@@ -17,7 +17,7 @@ use Rattle.ht_round.specs.Returned.{returned_text}
 use Rattle.ht_round.proofs.Passed.{sent_frames}
 use Rattle.ht_round.proofs.Round.{text_back}
 use Rattle.ht_round.proofs.Simulated.{simulated_text}
-use Rattle.ht_convert.specs.Converting.{SendsTo, UpgradesTo}
+use Rattle.ht_sim.specs.Converting.{SendsTo, UpgradesTo}
 use Rattle.ht_cli.proofs.Upgrading.{same_reception}
 
 module _ (frames : List FrameView) (are : AreFrames frames) where

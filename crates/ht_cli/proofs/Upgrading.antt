@@ -17,7 +17,7 @@ use Rattle.ht_results.specs.Results.{frame_result, results_of}
 use Rattle.ht_results.specs.Texts.{frame_lines_of, frames_of, last_line, last_of, result_lines, rx_text}
 use Rattle.ht_capture_laws.specs.Items.{whole_frames}
 use Rattle.ht_results.specs.JobTexts.{detect_text, job_lines, jobs_of, lines_of}
-use Rattle.ht_convert.specs.Converting.{UpgradesTo}
+use Rattle.ht_sim.specs.Converting.{UpgradesTo}
 
 -- an upgraded capture has the same frames
 pub one_upgrade : (octets a b : List ℕ) → UpgradesTo octets a → UpgradesTo octets b → a ≡ b

@@ -6,7 +6,7 @@ use Rattle.ht_tx.specs.Symbols.{SymbolsView}
 use Rattle.ht_files.specs.Files.{AreFrames, frames_file_of}
 use Rattle.ht_files.specs.SymbolFiles.{AreSymbolFrames}
 use Rattle.ht_round.specs.Exact.{AreExact, HoldOctets}
-use Rattle.ht_convert.specs.Converting.{SendsTo}
+use Rattle.ht_sim.specs.Converting.{SendsTo}
 
 -- these frames, whose octets are below 256, can be written in a file, of which `tx` makes this file of symbols
 abbrev pub SendsFrames : List FrameView → List ℕ → Type 0

@@ -12,13 +12,13 @@ use Rattle.ht_words.specs.declared.asked.Asked.{Asked}
 use Rattle.ht_words.specs.declared.asked.Asked.TheVariants.{Detect, Rx, Soft, LegacyRx, Many, Tx, Channel, Upgrade, Certify, Check, LegacyChannel, Demo}
 use Rattle.ht_cli.specs.Commands.{Command, Reads, Converts, Makes, Answers, Rejects}
 use Rattle.ht_cli.specs.Filters.{streaming, whole}
-use Rattle.ht_convert.specs.Converting.{SendsTo, UpgradesTo}
+use Rattle.ht_sim.specs.Converting.{SendsTo, UpgradesTo}
 use Rattle.ht_files.specs.Frames.{frames}
 use Rattle.ht_files.specs.Points.{symbols}
 use Rattle.ht_sim.specs.Passing.{PassesTo}
 use Rattle.ht_cert.specs.Formats.{certificates}
 use Rattle.ht_certify.specs.Certifying.{certifying}
-use Rattle.ht_check.specs.Checks.{check_lines, check_text}
+use Rattle.ht_certify.specs.Checks.{check_lines, check_text}
 use Rattle.ht_legacy_sim.specs.Passing.{passing as legacy_passing}
 use Rattle.ht_legacy_files.specs.CaptureFormats.{captures as legacy_captures}
 use Rattle.ht_legacy_rx.specs.Texts.{legacy_lines_of, legacy_text}

@@ -31,8 +31,8 @@ mod lines;
 mod status;
 
 use ht_certify::certify_capture;
-use ht_check::check_file;
-use ht_convert::{send, upgrade};
+use ht_certify::check_file;
+use ht_sim::{send, upgrade};
 use ht_demo::{Plan, demo, demo_alone};
 use ht_feed::Gate;
 use ht_io::{Sink, Source};

@@ -2,7 +2,7 @@
 //! open and `x` where it is cut.
 use crate::common::{source, spoiled};
 use crate::equal::equal;
-use ht_check::check_file;
+use ht_certify::check_file;
 use ht_io::{FormatFault, Kind, MemSink};
 use ht_runs::RunFault;
 use std::alloc::{AllocError, Global};

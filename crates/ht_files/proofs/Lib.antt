@@ -3,3 +3,8 @@ pub mod FrameRoutes
 pub mod Levels
 pub mod PointRoutes
 pub mod Walks
+pub mod Back
+pub mod Ends
+pub mod FrameFiles
+pub mod Passing
+pub mod SymbolFiles

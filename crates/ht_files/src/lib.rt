@@ -20,8 +20,14 @@
 //! and `write_symbols` put the file into any sink and take no memory. What was written is a file of these frames, no
 //! file is a prefix of another, and frames of which the same file is written are the same, so that what is read of it
 //! are the frames again.
+//!
+//! [`beginnings`] and [`files`] have laws of the formats, whatever reads or writes such files: good fields can always be
+//! continued to a file, and each file is the one that is written of its frames, or of its symbols. So a law that speaks of
+//! written files speaks of all files.
 #![tactic(auto)]
 
+pub mod beginnings;
+pub mod files;
 mod frames;
 pub mod laws;
 mod point;

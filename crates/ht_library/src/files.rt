@@ -1,7 +1,7 @@
 //! Files in memory, and the files that the program's commands make of them.
 ghost use Rattle.ht_certify.specs.Certifying.{certifying};
-ghost use Rattle.ht_check.specs.Checks.{checking};
-ghost use Rattle.ht_convert.specs.Converting.{sending, upgrading};
+ghost use Rattle.ht_certify.specs.Checks.{checking};
+ghost use Rattle.ht_sim.specs.Converting.{sending, upgrading};
 ghost use Rattle.ht_legacy_sim.specs.Passing.{passing as legacy_passing};
 ghost use Rattle.ht_sim.specs.Passing.{passing};
 ghost use Rattle.ht_library.specs.Written.{Answers, Ran, by_conversion, by_filter};
@@ -9,8 +9,8 @@ ghost use Rattle.ht_library.specs.Written.{Answers, Ran, by_conversion, by_filte
 use crate::crossing::MizgaureRefusal;
 use crate::handing::{hand_over, source_of};
 use ht_certify::certify_capture;
-use ht_check::check_file;
-use ht_convert::{send, upgrade};
+use ht_certify::check_file;
+use ht_sim::{send, upgrade};
 use ht_io::GrowSink;
 use ht_legacy_sim::legacy_channel;
 use ht_list::List;

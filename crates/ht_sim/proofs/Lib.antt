@@ -6,3 +6,5 @@ pub mod Shapes
 mod Signs
 pub mod Typed
 mod Worked
+pub mod Transmitting
+pub mod Upgrades

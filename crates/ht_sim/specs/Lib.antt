@@ -3,3 +3,4 @@ pub mod Draws
 pub mod Channel
 pub mod Samples
 pub mod Passing
+pub mod Converting

@@ -6,10 +6,10 @@ use Rattle.ht_results.specs.Texts.{HasFrames, frame_lines_of, rx_text}
 use Rattle.ht_runs.specs.Filters.{SaysNothing}
 use Rattle.ht_sim.specs.Passing.{passing}
 use Rattle.ht_certify.specs.Certifying.{certifying}
-use Rattle.ht_check.specs.Checks.{checking}
-use Rattle.ht_check.proofs.Ending.{checking_ends}
+use Rattle.ht_certify.specs.Checks.{checking}
+use Rattle.ht_certify.proofs.Ending.{checking_ends}
 use Rattle.ht_legacy_sim.specs.Passing.{passing as legacy_passing}
-use Rattle.ht_convert.specs.Converting.{sending, upgrading}
+use Rattle.ht_sim.specs.Converting.{sending, upgrading}
 use Rattle.ht_demo.specs.Demos.{Demonstrates}
 use Rattle.ht_cli.specs.Tasks.{plan_of}
 use Rattle.ht_cli.proofs.Answering.{converts, streams}

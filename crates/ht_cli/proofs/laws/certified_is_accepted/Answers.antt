@@ -1,7 +1,7 @@
 use Rattle.std.proofs.lemmas.List.Elements.{All-from_recursion}
 use Rattle.ht_capture.specs.Captures.{capture_of}
 use Rattle.ht_certify.specs.Certifying.{certified}
-use Rattle.ht_check.proofs.Accepting.{Holds}
+use Rattle.ht_certify.proofs.Accepting.{Holds}
 use Rattle.ht_cli.proofs.Certified.{HasJob, IsNearest, all_checked, all_near, are_records, have_jobs, is_accepted, is_file}
 use Rattle.ht_cli.proofs.Certifying.{run_accepted, run_not_refused}
 use Rattle.ht_cli.proofs.laws.certified_is_accepted.Goals as goal

@@ -1,5 +1,5 @@
 use Rattle.ht_cert.specs.Formats.{certificates}
-use Rattle.ht_check.specs.Checks.{check_lines, check_text}
+use Rattle.ht_certify.specs.Checks.{check_lines, check_text}
 use Rattle.ht_cli.proofs.Saying.{text_broken_off, text_done, text_known, text_known_refused, text_memory, text_part, text_refused}
 use Rattle.ht_cli.proofs.laws.clauses_of_check.Goals as goal
 

@@ -1,4 +1,4 @@
-use Rattle.ht_convert.specs.Converting.{upgrading}
+use Rattle.ht_sim.specs.Converting.{upgrading}
 use Rattle.ht_cli.proofs.Saying.{output_done, output_part, output_refused}
 use Rattle.ht_cli.proofs.laws.clauses_of_upgrade.Goals as goal
 

@@ -1,2 +1,0 @@
-pub mod Transmitting
-pub mod Upgrades

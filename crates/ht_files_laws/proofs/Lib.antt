@@ -1,5 +1,0 @@
-pub mod Back
-pub mod Ends
-pub mod FrameFiles
-pub mod Passing
-pub mod SymbolFiles
