@@ -7,12 +7,11 @@ ghost use Rattle.ht_receive.specs.Ends.{StreamsText};
 ghost use Rattle.ht_legacy_rx.specs.Texts.{legacy_items, legacy_lines_of, legacy_text};
 
 use crate::labels::LegacyLabels;
-use ht_receive::put_end;
 use ht_feed::Gate;
 use ht_frames::{BesideFrames, Frame, Frames, Kind, TallyWork, TextBook};
 use ht_io::{Sink, Source};
 use ht_legacy_blocks::LegacyReader;
-use ht_receive::{receive, receive_alone};
+use ht_receive::{put_end, receive, receive_alone};
 use ht_runs::RunFault;
 use std::alloc::Global;
 use std::sync::Wait;

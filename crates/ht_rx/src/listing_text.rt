@@ -7,9 +7,9 @@ ghost use Rattle.ht_results.specs.Texts.{HasFrames};
 ghost use Rattle.ht_runs.specs.Formats.{filter};
 
 use crate::listing::{list_jobs, list_jobs_alone};
-use ht_receive::put_end;
 use ht_feed::Gate;
 use ht_io::{Sink, Source};
+use ht_receive::put_end;
 use ht_runs::RunFault;
 use std::alloc::Global;
 use std::sync::Wait;

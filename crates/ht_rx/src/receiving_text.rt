@@ -6,10 +6,10 @@ ghost use Rattle.ht_results.specs.Texts.{HasFrames, frame_lines_of, rx_text};
 ghost use Rattle.ht_runs.specs.Formats.{filter};
 
 use crate::receiving::{receive, receive_alone};
-use ht_receive::put_end;
 use ht_feed::Gate;
 use ht_frames::TextBook;
 use ht_io::{Sink, Source};
+use ht_receive::put_end;
 use ht_runs::RunFault;
 use std::alloc::Global;
 use std::sync::Wait;

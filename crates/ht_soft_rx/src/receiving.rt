@@ -8,11 +8,10 @@ ghost use Rattle.ht_soft_rx.specs.Texts.{soft_lines_of, soft_rx_text};
 
 use crate::kind::Weights;
 use ht_capture_blocks::CaptureReader;
-use ht_receive::put_end;
 use ht_feed::Gate;
 use ht_frames::{BesideFrames, Frame, Frames, TallyWork, TextBook};
 use ht_io::{Sink, Source};
-use ht_receive::{receive, receive_alone};
+use ht_receive::{put_end, receive, receive_alone};
 use ht_results::no_head;
 use ht_runs::RunFault;
 use std::alloc::Global;
