@@ -1,8 +1,8 @@
 -- Octets that mark the bits of a frame, and the words that are made from them.
 use Rattle.std.proofs.Common.{◌≡◌, ◌∙◌, ◌↔◌, ℕ, zero, suc, ◌+◌, ◌-◌, ◌*◌, ◌/◌, ◌%◌, ◌^◌, ◌<◌, ◌≤◌, List}
 use Rattle.std.proofs.Common.{[], ◌∷◌, ◌++◌, length, map, slice_index, slice_index_or}
-use Rattle.std.proofs.Common.{Bool, true, false, true≢false, Option, None, Some, inl, inr, refl, sym, ap, subst, arith}
-use Rattle.std.specs.Prelude.{◌==◌, nat_le, if◌then◌else◌}
+use Rattle.std.proofs.Common.{Bool, true, false, true≢false, None, Some, inl, inr, refl, sym, ap, arith}
+use Rattle.std.specs.Prelude.{◌==◌, nat_le}
 use Rattle.std.specs.Int.{bit_at}
 use Rattle.std.specs.Int.RustNames.{bit_and}
 use Rattle.std.specs.List.{range_with_len}
@@ -12,14 +12,13 @@ use Rattle.std.proofs.lemmas.List.FromFn.{length-map-range_with_len, get_or-map-
 use Rattle.std.proofs.lemmas.Nat.{pow_pos}
 use Rattle.std.proofs.lemmas.Nat.Bits.{and_pow, bit_at-lt}
 use Rattle.ht_rate.specs.declared.rates.Rate.{Rate}
-use Rattle.ht_rate.specs.declared.kinds.Pattern.{Pattern}
 use Rattle.ht_rate.specs.Rates.{pattern_of, steps_of}
 use Rattle.ht_conv.specs.Puncturing.{sent_count}
 use Rattle.ht_landing.specs.Landings.{landing_of}
 use Rattle.ht_parse.specs.Streams.{share_of}
 use Rattle.ht_viterbi.specs.Packed.{flag, packed, packed_bit}
 use Rattle.ht_inverse.specs.Received.{labels_per_symbol, received_at, received_of}
-use Rattle.ht_inverse.specs.Shares.{HasMarks, bit_in, is_one, known_at, label_bit_of, mark_in}
+use Rattle.ht_inverse.specs.Shares.{HasMarks, is_one, known_at, label_bit_of, mark_in}
 use Rattle.ht_inverse.proofs.Gathered.{counted-length, parts, place-received}
 use Rattle.ht_inverse.proofs.Undisturbed.{none-lost}
 

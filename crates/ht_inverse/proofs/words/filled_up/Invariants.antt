@@ -1,4 +1,4 @@
-use Rattle.std.proofs.Common.{◌≡◌, ◌<◌, ◌≤◌, ℕ, length, slice_index, slice_index_or, replicate}
+use Rattle.std.proofs.Common.{◌≡◌, ◌<◌, ◌≤◌, ℕ, length, slice_index, slice_index_or}
 use Rattle.ht_inverse.proofs.words.filled_up.Given as goal
 
 abbrev pub invariant-loop-k : goal.invariant-loop-k

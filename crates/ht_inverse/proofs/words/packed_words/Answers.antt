@@ -1,4 +1,4 @@
-use Rattle.std.proofs.Common.{◌∙◌, ◌+◌, arith}
+use Rattle.std.proofs.Common.{◌∙◌, arith}
 use Rattle.ht_inverse.proofs.Marked.{longer, marks-more}
 use Rattle.ht_inverse.proofs.words.packed_words.Goals as goal
 

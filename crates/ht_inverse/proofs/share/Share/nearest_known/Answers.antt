@@ -1,4 +1,4 @@
-use Rattle.std.proofs.Common.{◌≡◌, ◌≤◌, ◌∙◌, List, Bool, Option, ap, sym, map, arith}
+use Rattle.std.proofs.Common.{◌≡◌, ◌∙◌, List, Bool, Option, ap, sym, map}
 use Rattle.std.proofs.lemmas.List.{length-map}
 use Rattle.std.proofs.lemmas.Result.{IfOk-weaker}
 use Rattle.ht_viterbi.specs.Inputs.{IsFound, place_cost}
