@@ -21,7 +21,7 @@ use Rattle.ht_viterbi.specs.Decoded.{cheapest}
 use Rattle.ht_viterbi.proofs.Enumerating.{cheapest_is}
 use Rattle.ht_inverse.specs.Received.{received_at, received_of}
 use Rattle.ht_inverse.specs.Decoding.{distance_at, input_of, joined_bits, scrambled_bits}
-use Rattle.ht_inverse.specs.Shares.{AreCodewords, AreOfEncoders, codeword_of, no_codeword, untailed}
+use Rattle.ht_inverse.specs.Shares.{AreCodewords, AreOfEncoders, IsNearest, codeword_of, no_codeword, untailed}
 use Rattle.ht_inverse.proofs.Gathered.{map-same}
 
 -- a received list has a place for each bit that is kept of the codeword's steps
@@ -177,6 +177,14 @@ cheapest-answer {P} cost steps s p q received places input n steps_are p_is rece
           ∙ (ap (λ (z : Pattern). cost_of cost z received input) p_is
           ∙ (ap (λ (v : List P). cost_of cost q v input) received_is ∙ ap (λ (u : List Bool). cost_of cost q places u) answer)),
     )
+
+-- what was found at given places is the nearest codeword, where they are those of the received list
+pub found-nearest : (r : Rate) (octets erased j steps : ℕ) (labels : List ℕ) (p : Pattern) (received : List (Option Bool)) (c : Codeword)
+    → p ≡ pattern_of r → received ≡ received_of r octets erased labels j → IsFound place_cost steps p received c.input c.distance
+    → IsNearest r octets erased labels j steps c
+found-nearest r octets erased j steps labels p received c p_is received_is found =
+    subst (λ (places : List (Option Bool)). IsFound place_cost steps (pattern_of r) places c.input c.distance) received_is
+    (subst (λ (q : Pattern). IsFound place_cost steps q received c.input c.distance) p_is found)
 
 -- what is decoded is the codeword of its encoder
 pub codeword-is : (r : Rate) (octets erased j steps : ℕ) (labels : List ℕ) (p : Pattern) (received : List (Option Bool)) (c : Codeword)

@@ -23,7 +23,6 @@ use Rattle.ht_viterbi.specs.declared.received_bit.ReceivedBit.{ReceivedBit}
 use Rattle.ht_viterbi.specs.declared.received_bit.ReceivedBit.TheVariants.{Erased, Zero, One}
 use Rattle.ht_viterbi.specs.Received.{known_of}
 use Rattle.ht_inverse.specs.declared.label_bit.LabelBit.{LabelBit}
-use Rattle.ht_inverse.proofs.Undisturbed.{none-lost}
 use Rattle.ht_inverse.specs.Received.{is_lost, label_number, labels_per_symbol, received_at, received_of, value_at, values_of}
 use Rattle.ht_inverse.specs.Shares.{HasDecision, HasSymbols, HasValue, bit_in, decision_in, known_at, label_bit_of, label_bits_to, value_in}
 
@@ -71,7 +70,7 @@ place-bounds r erased j i there =
     (subst (λ (k : ℕ). landing.carrier * streams_of r + (landing.stream - 1) < k) (mul_comm (streams_of r) (data_carriers_of r)) within, omega arith)
 
 -- a place has the coded bit of each symbol
-place-received : (r : Rate) (erased j n i : ℕ) (labels : List ℕ) → i < share_of r
+pub place-received : (r : Rate) (erased j n i : ℕ) (labels : List ℕ) → i < share_of r
     → received_at r erased labels j (n * share_of r + i)
     ≡ bit_in (label_bit_of r erased j i) (slice_index_or labels (n * labels_per_symbol r + (label_bit_of r erased j i).label) 0)
 unfolding received_at label_bit_of label_bit
@@ -149,7 +148,7 @@ has-is has r erased j symbols symbol i per label place all within is below wide 
     (subst (λ (p : LabelBit). has (symbol * labels_per_symbol r + p.label) p) (sym is) (all symbol i within below)))
 
 -- a coded bit by its symbol and its place in the symbol's share
-parts : (r : Rate) (q : ℕ) → (q / share_of r * share_of r + q % share_of r ≡ q) × (q % share_of r < share_of r)
+pub parts : (r : Rate) (q : ℕ) → (q / share_of r * share_of r + q % share_of r ≡ q) × (q % share_of r < share_of r)
 parts r q = (div-add-mod' q (share_of r), mod-lt q (share-some r))
 
 -- a hard decision is that of the received list
@@ -215,18 +214,16 @@ values-are lost r octets erased j count bits values found encoder wide many are 
     ∙ ap (λ (n : ℕ). map (value_at lost r erased values j) (range_with_len 0 n)) many)
 
 -- labels and values of a frame have all coded bits
-pub has-decisions : (r : Rate) (erased j symbols : ℕ) (labels : List ℕ) (whole : Bool) → j < encoders_of r
-    → length labels ≡ symbols * labels_per_symbol r → (whole ≡ true → erased ≡ 0)
-    → HasSymbols (λ label place. HasDecision labels whole label place) r erased j symbols
+pub has-decisions : (r : Rate) (erased j symbols : ℕ) (labels : List ℕ) → j < encoders_of r
+    → length labels ≡ symbols * labels_per_symbol r → HasSymbols (λ label place. HasDecision labels label place) r erased j symbols
 unfolding label_bit_of
-has-decisions r erased j symbols labels whole there all none n i within below =
+has-decisions r erased j symbols labels there all n i within below =
     let w = label-within r erased j n i symbols (labels_per_symbol r) (label_bit_of r erased j i) there refl within refl in
     let inside = w.0 in
     let low = w.1 in
     record {
       there = omega (arith, inside, all);
       bit = omega (arith, low);
-      kept = λ is. ap (λ (m : ℕ). is_lost r m (landing_of r j i).carrier) (none is) ∙ none-lost r (landing_of r j i).carrier;
     }
 
 pub has-values : {V : Type 0} (r : Rate) (erased j symbols bits : ℕ) (values : List V) → j < encoders_of r → bits ≡ label_bits_of r

@@ -1,4 +1,5 @@
 pub mod Gathered
+pub mod Marked
 pub mod Lost
 pub mod Codewords
 pub mod Outcomes

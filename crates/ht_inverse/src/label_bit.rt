@@ -7,6 +7,8 @@ pub(crate) struct LabelBit {
     pub(crate) label: u16,
     // The number of bits of the label that stand behind it.
     pub(crate) shift: u8,
+    // The label in which this bit alone is 1.
+    pub(crate) mask: u8,
     // The subcarrier is erased.
     pub(crate) lost: bool,
 }

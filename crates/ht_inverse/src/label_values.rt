@@ -1,7 +1,7 @@
 //! What is known of the bits of labels: hard decisions, or a value for each bit.
 ghost use Rattle.std.specs.Prelude.{◌≡◌, ◌+◌, ◌-◌, ◌*◌, ◌<◌, ℕ, slice_index_or};
 ghost use Rattle.ht_inverse.specs.declared.label_bit.LabelBit.{LabelBit};
-ghost use Rattle.ht_inverse.specs.Shares.{HasDecision, HasValue, decision_in, value_in};
+ghost use Rattle.ht_inverse.specs.Shares.{HasDecision, HasValue, decision_in, mark_in, value_in};
 
 use crate::label_bit::LabelBit;
 use ht_viterbi::ReceivedBit;
@@ -23,31 +23,48 @@ pub(crate) trait LabelValues {
         ensures { result ≡ known self.now label place };
 }
 
-/// The labels themselves.
+/// The labels themselves, of which bits may be lost.
 #[derive(Drop)]
 pub(crate) struct Decisions<'a> {
     pub(crate) labels: &'a [u8],
-    /// No bit is lost, and none needs to be asked whether it is.
-    pub(crate) whole: bool,
 }
 
 impl<'a> LabelValues for Decisions<'a> {
     type Value = ReceivedBit;
 
-    ghost has = { λ s label place. HasDecision s.labels.now s.whole label place };
+    ghost has = { λ s label place. HasDecision s.labels.now label place };
 
     ghost known = { λ s label place. decision_in place (slice_index_or s.labels.now label 0) };
 
     #[inline(always)]
     fn known(&self, label: usize, place: LabelBit) -> ReceivedBit {
         let label = self.labels[label];
-        if !self.whole && place.lost {
+        if place.lost {
             ReceivedBit::Erased
         } else if label >> place.shift & 1 == 1 {
             ReceivedBit::One
         } else {
             ReceivedBit::Zero
         }
+    }
+}
+
+/// The labels themselves, of which no bit is lost. Of a bit that is 0 there is an octet 0, and of one that is 1 any other.
+#[derive(Drop)]
+pub(crate) struct Marks<'a> {
+    pub(crate) labels: &'a [u8],
+}
+
+impl<'a> LabelValues for Marks<'a> {
+    type Value = u8;
+
+    ghost has = { λ s label place. HasDecision s.labels.now label place };
+
+    ghost known = { λ s label place. mark_in place (slice_index_or s.labels.now label 0) };
+
+    #[inline(always)]
+    fn known(&self, label: usize, place: LabelBit) -> u8 {
+        self.labels[label] & place.mask
     }
 }
 

@@ -38,6 +38,7 @@ mod outcome;
 mod share;
 mod table;
 mod together;
+mod words;
 
 pub use bits::{come_to, inputs_come_to};
 pub use decoded::Decoded;

@@ -5,18 +5,21 @@ ghost use Rattle.std.specs.List.{range_with_len};
 ghost use Rattle.ht_rate.specs.Rates.{encoders_of, label_bits_of, pattern_of, steps_of, symbols_of};
 ghost use Rattle.ht_conv.specs.Puncturing.{sent_count};
 ghost use Rattle.ht_parse.specs.Streams.{share_of};
+ghost use Rattle.ht_viterbi.specs.Inputs.{tail};
+ghost use Rattle.ht_viterbi.specs.Packed.{packed};
 ghost use Rattle.ht_viterbi.specs.Received.{known_of};
 ghost use Rattle.ht_inverse.specs.Received.{labels_in_frame, labels_per_symbol, received_of, values_of};
-ghost use Rattle.ht_inverse.specs.Shares.{AreLost, HasSymbols, codeword_of, known_at, label_bit_of, label_bits_to};
+ghost use Rattle.ht_inverse.specs.Shares.{AreLost, HasSymbols, IsNearest, codeword_of, known_at, label_bit_of, label_bits_to};
 
 use crate::erasures::lost_carriers;
 use crate::frame_labels::FrameLabels;
 use crate::label_bit::LabelBit;
-use crate::label_values::{Decisions, LabelValues, Values};
+use crate::label_values::{Decisions, LabelValues, Marks, Values};
+use crate::words::packed_words;
 use ht_conv::sent;
 use ht_landing::Landing;
 use ht_rate::Rate;
-use ht_viterbi::{Codeword, ReceivedBit, decode_received};
+use ht_viterbi::{Codeword, ReceivedBit, decode_packed, decode_received};
 use std::alloc::{AllocError, Global};
 
 /// Where the labels of a symbol have the coded bits of an encoder's share, in their order.
@@ -44,16 +47,26 @@ fn share_size(rate: &Rate) -> u32
     u32::from(rate.coded_bits()) / u32::from(rate.encoders())
 }
 
+// The label in which the bit with this number of bits behind it alone is 1.
+fn mask_of(shift: u8) -> u8
+    requires { shift < 8 }
+    ensures { result ≡ 2 ^ shift }
+{
+    1 << shift
+}
+
 // Where coded bit i stands.
 fn place_of_bit(rate: &Rate, lost: &[bool; 108], encoder: u8, i: u32) -> LabelBit
     requires { encoder < encoders_of rate.now }
     ensures { (erased : ℕ) → AreLost rate.now erased lost.now → result ≡ label_bit_of rate.now erased encoder i }
 {
     let landing = Landing::of(rate, encoder, i);
+    let shift = rate.label_bits() - 1 - landing.bit;
     LabelBit {
         label: u16::from(landing.carrier) * u16::from(rate.streams())
             + u16::from(landing.stream - 1),
-        shift: rate.label_bits() - 1 - landing.bit,
+        shift,
+        mask: mask_of(shift),
         lost: lost[usize::from(landing.carrier)],
     }
 }
@@ -179,7 +192,7 @@ impl Share {
         sent(self.rate.pattern(), self.rate.codeword_steps(octets)) as usize
     }
 
-    /// The received list of a frame. A whole share has loops of its own.
+    // The received list of a frame.
     fn gathered(&self, alloc: Global, frame: &FrameLabels) -> Result<Vec<ReceivedBit>, AllocError>
         requires { length frame.now.labels.now ≡ labels_in_frame self.now.rate frame.now.octets }
         ensures { IfOk result (λ bits. map known_of bits.items
@@ -188,12 +201,72 @@ impl Share {
         let labels = frame.labels;
         let symbols = self.rate.symbols(frame.octets) as usize;
         let count = self.coded_bits(frame.octets);
+        self.received(alloc, symbols, &Decisions { labels }, count)
+    }
+
+    // The received list of a frame in which nothing is erased, 60 places to a word.
+    fn packed(&self, alloc: Global, frame: &FrameLabels) -> Result<Vec<u64>, AllocError>
+        requires labels { length frame.now.labels.now ≡ labels_in_frame self.now.rate frame.now.octets }
+        requires whole { self.now.erased ≡ 0 }
+        ensures places { IfOk result (λ words.
+            sent_count (pattern_of self.now.rate) (steps_of self.now.rate frame.now.octets) ≤ 60 * length words.items) }
+        ensures list { IfOk result (λ words.
+            packed words.items (sent_count (pattern_of self.now.rate) (steps_of self.now.rate frame.now.octets))
+            ≡ received_of self.now.rate frame.now.octets self.now.erased frame.now.labels.now self.now.encoder) }
+    {
+        let labels = frame.labels;
+        let symbols = self.rate.symbols(frame.octets) as usize;
+        let count = self.coded_bits(frame.octets);
+        let marks = self.received(alloc, symbols, &Marks { labels }, count)?;
+        packed_words(alloc, &marks)
+    }
+
+    // The nearest codeword of a frame in which nothing is erased.
+    fn nearest_whole(
+        &self,
+        alloc: Global,
+        frame: &FrameLabels,
+        steps: u32,
+    ) -> Result<Codeword, AllocError>
+        requires steps { (tail ≤ steps) × (steps ≤ 524302) × (steps ≡ steps_of self.now.rate frame.now.octets) }
+        requires labels { length frame.now.labels.now ≡ labels_in_frame self.now.rate frame.now.octets }
+        requires whole { self.now.erased ≡ 0 }
+        ensures { IfOk result (IsNearest self.now.rate frame.now.octets self.now.erased frame.now.labels.now self.now.encoder steps) }
+    {
+        let words = self.packed(alloc, frame)?;
+        decode_packed(alloc, steps, self.rate.pattern(), &words)
+    }
+
+    // The nearest codeword of a frame of which bits may be lost.
+    fn nearest_known(
+        &self,
+        alloc: Global,
+        frame: &FrameLabels,
+        steps: u32,
+    ) -> Result<Codeword, AllocError>
+        requires steps { (tail ≤ steps) × (steps ≤ 524302) × (steps ≡ steps_of self.now.rate frame.now.octets) }
+        requires labels { length frame.now.labels.now ≡ labels_in_frame self.now.rate frame.now.octets }
+        ensures { IfOk result (IsNearest self.now.rate frame.now.octets self.now.erased frame.now.labels.now self.now.encoder steps) }
+    {
+        let received = self.gathered(alloc, frame)?;
+        decode_received(alloc, steps, self.rate.pattern(), &received)
+    }
+
+    // The nearest codeword of a frame.
+    fn nearest(
+        &self,
+        alloc: Global,
+        frame: &FrameLabels,
+        steps: u32,
+    ) -> Result<Codeword, AllocError>
+        requires steps { (tail ≤ steps) × (steps ≤ 524302) × (steps ≡ steps_of self.now.rate frame.now.octets) }
+        requires labels { length frame.now.labels.now ≡ labels_in_frame self.now.rate frame.now.octets }
+        ensures { IfOk result (IsNearest self.now.rate frame.now.octets self.now.erased frame.now.labels.now self.now.encoder steps) }
+    {
         if self.erased == 0 {
-            let whole = true;
-            self.received(alloc, symbols, &Decisions { labels, whole }, count)
+            self.nearest_whole(alloc, frame, steps)
         } else {
-            let whole = false;
-            self.received(alloc, symbols, &Decisions { labels, whole }, count)
+            self.nearest_known(alloc, frame, steps)
         }
     }
 
@@ -234,8 +307,7 @@ impl Share {
         ensures steps { IfOk result (λ c. length c.input ≡ steps_of self.now.rate frame.now.octets) }
         ensures few { IfOk result (λ c. c.distance ≤ 2 ^ 30) }
     {
-        let received = self.gathered(alloc, frame)?;
         let steps = self.rate.codeword_steps(frame.octets);
-        decode_received(alloc, steps, self.rate.pattern(), &received)
+        self.nearest(alloc, frame, steps)
     }
 }

@@ -1,4 +1,4 @@
-use Rattle.std.proofs.Common.{◌≡◌, ◌*◌, ◌+◌, ◌-◌, ℕ, Bool, false, slice_index_or, arith, ap, ◌∙◌}
+use Rattle.std.proofs.Common.{◌≡◌, ◌*◌, ◌+◌, ◌-◌, ◌^◌, ℕ, Bool, false, slice_index_or, arith, ap, ◌∙◌}
 use Rattle.ht_rate.proofs.RateFacts.{data_carriers_of-range}
 use Rattle.ht_rate.specs.Rates.{streams_of, label_bits_of}
 use Rattle.ht_landing.specs.declared.landings.Landing.{Landing}
@@ -19,7 +19,7 @@ unfolding label_bit_of
 returns c = λ erased lost.
     let r = c.args.rate.now in
     let found = c.of-landing.result in
-    let made : ℕ → ℕ → Bool → LabelBit = λ label shift lost. record { label = label; shift = shift; lost = lost } in
+    let made : ℕ → ℕ → ℕ → Bool → LabelBit = λ label shift mask lost. record { label = label; shift = shift; mask = mask; lost = lost } in
     let label_of : Landing → ℕ = λ l. l.carrier * streams_of r + (l.stream - 1) in
     let gone_at = slice_index_or c.args.lost.now c.from-4.result false in
     let label : c.from.result * c.from-2.result + c.from-3.result ≡ label_of found =
@@ -29,7 +29,10 @@ returns c = λ erased lost.
     let shift : c.label_bits.result - 1 - found.bit ≡ label_bits_of r - 1 - found.bit = ap (λ n. n - 1 - found.bit) c.label_bits.ensures.value in
     let gone : gone_at ≡ is_lost r erased found.carrier =
     ap (λ n. slice_index_or c.args.lost.now n false) c.from-4.ensures ∙ lost found.carrier c.of-landing.ensures.label.carrier in
-    ap (λ n. made n (c.label_bits.result - 1 - found.bit) gone_at) label
-    ∙ (ap (λ n. made (label_of found) n gone_at) shift
-    ∙ (ap (λ b. made (label_of found) (label_bits_of r - 1 - found.bit) b) gone
-    ∙ ap (λ (l : Landing). made (label_of l) (label_bits_of r - 1 - l.bit) (is_lost r erased l.carrier)) c.of-landing.ensures.value))
+    let mask : c.mask_of.result ≡ 2 ^ (label_bits_of r - 1 - found.bit) = c.mask_of.ensures ∙ ap (λ n. 2 ^ n) shift in
+    ap (λ n. made n (c.label_bits.result - 1 - found.bit) c.mask_of.result gone_at) label
+    ∙ (ap (λ n. made (label_of found) n c.mask_of.result gone_at) shift
+    ∙ (ap (λ n. made (label_of found) (label_bits_of r - 1 - found.bit) n gone_at) mask
+    ∙ (ap (λ b. made (label_of found) (label_bits_of r - 1 - found.bit) (2 ^ (label_bits_of r - 1 - found.bit)) b) gone
+    ∙ ap (λ (l : Landing). made (label_of l) (label_bits_of r - 1 - l.bit) (2 ^ (label_bits_of r - 1 - l.bit)) (is_lost r erased l.carrier))
+    c.of-landing.ensures.value)))

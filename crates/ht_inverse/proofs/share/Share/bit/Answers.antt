@@ -4,7 +4,7 @@ use Rattle.ht_inverse.proofs.Gathered.{few-labels, has-is, known-is, label-insid
 use Rattle.ht_inverse.proofs.share.Share.bit.Goals as goal
 
 abbrev no_place : LabelBit
-no_place = record { label = 0; shift = 0; lost = false }
+no_place = record { label = 0; shift = 0; mask = 0; lost = false }
 
 pub offset_bounds-places-place : goal.offset_bounds-places-place
 offset_bounds-places-place g c = omega (arith, share-few c.args.self.now.rate, c.requires.place)

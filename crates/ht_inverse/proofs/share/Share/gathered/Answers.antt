@@ -1,4 +1,4 @@
-use Rattle.std.proofs.Common.{◌≡◌, ◌∙◌, ◌*◌, ℕ, true, false, true≢false, ap, sym, map, slice_index_or}
+use Rattle.std.proofs.Common.{◌≡◌, ◌∙◌, ◌*◌, ℕ, ap, sym, map, slice_index_or}
 use Rattle.std.specs.List.{range_with_len}
 use Rattle.std.proofs.lemmas.Result.{IfOk-weaker}
 use Rattle.ht_viterbi.specs.Received.{known_of}
@@ -10,17 +10,11 @@ use Rattle.ht_inverse.proofs.share.Share.gathered.Goals as goal
 pub received-requires-clause-labels : goal.received-requires-clause-labels
 received-requires-clause-labels c =
     let s = c.args.self.now in
-    has-decisions s.rate s.erased s.encoder c.symbols-symbols.result c.args.frame.now.labels.now true s.there
-    (c.requires ∙ ap (λ (n : ℕ). n * labels_per_symbol s.rate) (sym c.symbols-symbols.ensures.value)) (λ _. c.if-self-eq0.true)
+    has-decisions s.rate s.erased s.encoder c.symbols-symbols.result c.args.frame.now.labels.now s.there
+    (c.requires ∙ ap (λ (n : ℕ). n * labels_per_symbol s.rate) (sym c.symbols-symbols.ensures.value))
 
-pub received-requires-else-self-eq0-clause-labels : goal.received-requires-else-self-eq0-clause-labels
-received-requires-else-self-eq0-clause-labels c =
-    let s = c.args.self.now in
-    has-decisions s.rate s.erased s.encoder c.symbols-symbols.result c.args.frame.now.labels.now false s.there
-    (c.requires ∙ ap (λ (n : ℕ). n * labels_per_symbol s.rate) (sym c.symbols-symbols.ensures.value)) (λ e. absurd (true≢false (sym e)))
-
-pub returns-then-self-eq0 : goal.returns-then-self-eq0
-returns-then-self-eq0 c =
+pub returns : goal.returns
+returns c =
     let s = c.args.self.now in
     let labels = c.args.frame.now.labels.now in
     IfOk-weaker c.received.result
@@ -30,15 +24,3 @@ returns-then-self-eq0 c =
     (λ bits are. decisions-are s.rate c.args.frame.now.octets s.erased s.encoder c.coded_bits-count.result labels bits.items
     c.coded_bits-count.ensures.value are)
     c.received.ensures
-
-pub returns-else-self-eq0 : goal.returns-else-self-eq0
-returns-else-self-eq0 c =
-    let s = c.args.self.now in
-    let labels = c.args.frame.now.labels.now in
-    IfOk-weaker c.received-else-self-eq0.result
-    (λ bits. bits.items ≡ map (known_at (λ label place. decision_in place (slice_index_or labels label 0)) s.rate s.erased s.encoder)
-    (range_with_len 0 c.coded_bits-count.result))
-    (λ bits. map known_of bits.items ≡ received_of s.rate c.args.frame.now.octets s.erased labels s.encoder)
-    (λ bits are. decisions-are s.rate c.args.frame.now.octets s.erased s.encoder c.coded_bits-count.result labels bits.items
-    c.coded_bits-count.ensures.value are)
-    c.received-else-self-eq0.ensures
