@@ -6,8 +6,8 @@ ghost use Rattle.ht_runs.specs.Streamed.{Streamed};
 ghost use Rattle.ht_runs.specs.declared.faults.RunFault.TheVariants.{Write};
 ghost use Rattle.ht_certify.specs.Checks.{checking};
 
-use crate::lines::push_line;
 use crate::check_putting::{BLOCK, put, put_block};
+use crate::lines::push_line;
 use crate::tally::Tally;
 use ht_cert::{Came, Record, RecordReader};
 use ht_io::{Sink, Source};

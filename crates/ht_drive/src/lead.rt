@@ -5,13 +5,13 @@ ghost use Rattle.ht_drive.specs.Driving.{HasYetToLead, LeadsBlocks};
 
 use crate::deliver::deliver;
 use crate::helm::BlockHelm;
+use crate::pace::Pace;
 use crate::supply::supply;
 use crate::tally::Tally;
 use crate::task::Runner;
 use crate::turn::turn;
 use crate::window::Window;
 use ht_feed::{Answer, BlockFeed, DriveFault, Shared, Work};
-use crate::pace::Pace;
 use std::sync::Wait;
 
 /// Leads all blocks of a feed through an empty window and a pool to which nothing was given, and hands the feed their

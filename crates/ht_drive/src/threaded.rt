@@ -12,12 +12,12 @@ ghost use Rattle.ht_drive.specs.Reports.{HasRunInPool, HasRunJobs, blocks_pushed
 
 use crate::helm::BlockHelm;
 use crate::lead::lead;
+use crate::pace::Pace;
 use crate::report::{Passes, Report};
 use crate::tally::Tally;
 use crate::task::{Done, Runner, Task};
 use crate::window::Window;
 use ht_feed::{Answer, BlockFeed, DriveFault, Jobs, Shared, Work, drive_alone};
-use crate::pace::Pace;
 use ht_pool::close::close;
 use ht_pool::closed::Closed;
 use ht_pool::crew::beside;

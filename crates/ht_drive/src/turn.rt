@@ -3,9 +3,9 @@ ghost use Rattle.std.specs.Prelude.{◌≡◌, OnErr, OnOk};
 ghost use Rattle.ht_drive.specs.Blocks.{IsSameHelm, seen};
 
 use crate::helm::BlockHelm;
+use crate::pace::Pace;
 use crate::window::Window;
 use ht_feed::{Answer, Shared, Work};
-use crate::pace::Pace;
 use std::alloc::AllocError;
 use std::thread;
 

@@ -8,14 +8,12 @@ ghost use Rattle.ht_library.specs.Written.{Answers, Ran, by_conversion, by_filte
 
 use crate::crossing::MizgaureRefusal;
 use crate::handing::{hand_over, source_of};
-use ht_certify::certify_capture;
-use ht_certify::check_file;
-use ht_sim::{send, upgrade};
+use ht_certify::{certify_capture, check_file};
 use ht_io::GrowSink;
 use ht_legacy_sim::legacy_channel;
 use ht_list::List;
 use ht_runs::RunFault;
-use ht_sim::channel;
+use ht_sim::{channel, send, upgrade};
 use std::alloc::Global;
 
 fn sent(alloc: Global, frames: &[u8]) -> Result<List<u8>, RunFault>
