@@ -38,6 +38,9 @@ pub struct Share {
     pub(crate) ghost places_are: { places.items ≡ label_bits_to rate erased encoder (share_of rate) },
 }
 
+// The number of coded bits that a turn of the loop over a symbol takes.
+const RUN: usize = 8;
+
 // N_CBPS / N_ES, the coded bits of an encoder in a symbol.
 #[tactic(auto, unfolding(ht_parse::specs::Streams::share_of))]
 fn share_size(rate: &Rate) -> u32
@@ -130,6 +133,37 @@ impl Share {
         labels.known(symbol * per_symbol + usize::from(place.label), place)
     }
 
+    // Appends what is known of some of a symbol's coded bits, which come next.
+    #[inline(always)]
+    fn push_some<L: LabelValues>(
+        &self,
+        bits: &mut Vec<L::Value>,
+        labels: &L,
+        symbols: usize,
+        symbol: usize,
+        from: usize,
+        count: usize,
+    )
+        requires labels { HasSymbols (L.has labels.now) self.now.rate self.now.erased self.now.encoder symbols }
+        requires few { symbols ≤ 2 ^ 20 }
+        requires share { from + count ≤ share_of self.now.rate }
+        requires within { symbol * share_of self.now.rate + (from + count) ≤ symbols * share_of self.now.rate }
+        requires room { symbol * share_of self.now.rate + (from + count) ≤ vec_capacity bits.old }
+        requires so_far { bits.old.items
+            ≡ map (known_at (L.known labels.now) self.now.rate self.now.erased self.now.encoder)
+            (range_with_len 0 (symbol * share_of self.now.rate + from)) }
+        ensures items { bits.new.items
+            ≡ map (known_at (L.known labels.now) self.now.rate self.now.erased self.now.encoder)
+            (range_with_len 0 (symbol * share_of self.now.rate + (from + count))) }
+        ensures capacity { vec_capacity bits.new ≡ vec_capacity bits.old }
+    {
+        let places = self.places.as_slice();
+        let per_symbol = usize::from(self.rate.data_carriers()) * usize::from(self.rate.streams());
+        for k in 0..count {
+            bits.push_reserved(self.bit(places, labels, per_symbol, symbol, from + k, symbols));
+        }
+    }
+
     // Appends what is known of a symbol's first coded bits, which come next.
     #[inline(always)]
     fn push_symbol<L: LabelValues>(
@@ -151,11 +185,11 @@ impl Share {
             ≡ map (known_at (L.known labels.now) self.now.rate self.now.erased self.now.encoder) (range_with_len 0 (symbol * share_of self.now.rate + count)) }
         ensures capacity { vec_capacity bits.new ≡ vec_capacity bits.old }
     {
-        let places = self.places.as_slice();
-        let per_symbol = usize::from(self.rate.data_carriers()) * usize::from(self.rate.streams());
-        for place in 0..count {
-            bits.push_reserved(self.bit(places, labels, per_symbol, symbol, place, symbols));
+        let turns = count / RUN;
+        for turn in 0..turns {
+            self.push_some(bits, labels, symbols, symbol, RUN * turn, RUN);
         }
+        self.push_some(bits, labels, symbols, symbol, RUN * turns, count % RUN);
     }
 
     // What is known of the encoder's first coded bits: of those of whole symbols, and of a part of the next.

@@ -1,32 +1,35 @@
-use Rattle.std.proofs.Common.{◌≡◌, ◌∙◌, ℕ, ◌*◌, ◌+◌, length, map, ap, refl, arith}
+use Rattle.std.proofs.Common.{◌≡◌, ◌∙◌, ℕ, ◌*◌, ◌+◌, ◌/◌, ◌%◌, map, ap, refl, arith}
 use Rattle.std.specs.List.{range_with_len}
 use Rattle.ht_parse.specs.Streams.{share_of}
 use Rattle.ht_inverse.specs.Shares.{known_at}
-use Rattle.ht_inverse.proofs.Gathered.{counted-length, value-added}
 use Rattle.ht_inverse.proofs.share.Share.push_symbol.Goals as goal
 
-pub loop-place-init : goal.loop-place-init
-loop-place-init g c =
+pub loop-turn-init : goal.loop-turn-init
+loop-turn-init g c =
     let s = c.args.self.now in
     let f = known_at (g.L.LabelValues.known c.args.labels.now) s.rate s.erased s.encoder in
-    let at = c.args.symbol * share_of s.rate in
-    let none : at ≡ at + 0 = omega arith in
-    let long : length c.args.bits.now.items ≡ at = counted-length f c.args.bits.now.items at c.requires.so_far in
+    let none : c.args.symbol * share_of s.rate ≡ c.args.symbol * share_of s.rate + 8 * 0 = omega arith in
     record {
       items = c.requires.so_far ∙ ap (λ (n : ℕ). map f (range_with_len 0 n)) none;
-      len = omega (arith, long);
       capacity = refl;
     }
 
-pub loop-place-preserved : goal.loop-place-preserved
-loop-place-preserved g c =
+pub loop-turn-preserved : goal.loop-turn-preserved
+loop-turn-preserved g c =
     let s = c.args.self.now in
-    let was = c.loop-place.invariant in
-    let at = c.args.symbol * share_of s.rate + c.loop-place.place in
+    let f = known_at (g.L.LabelValues.known c.args.labels.now) s.rate s.erased s.encoder in
+    let at = c.args.symbol * share_of s.rate in
+    let turn = c.loop-turn.turn in
+    let next : at + (8 * turn + 8) ≡ at + 8 * (turn + 1) = omega arith in
     record {
-      items = c.push_reserved.ensures.items
-          ∙ value-added (known_at (g.L.LabelValues.known c.args.labels.now) s.rate s.erased s.encoder) c.loop-place.bits.items c.bit.result at
-          (c.args.symbol * share_of s.rate + (c.loop-place.place + 1)) c.bit.ensures (omega arith) was.items;
-      len = omega (arith, was.len, c.push_reserved.ensures.len);
-      capacity = c.push_reserved.ensures.capacity ∙ was.capacity;
+      items = c.push_some.ensures.items ∙ ap (λ (n : ℕ). map f (range_with_len 0 n)) next;
+      capacity = c.push_some.ensures.capacity ∙ c.loop-turn.invariant.capacity;
     }
+
+pub returns-clause-items : goal.returns-clause-items
+returns-clause-items g c =
+    let s = c.args.self.now in
+    let f = known_at (g.L.LabelValues.known c.args.labels.now) s.rate s.erased s.encoder in
+    let at = c.args.symbol * share_of s.rate in
+    let all : at + (8 * (c.args.count / 8) + c.args.count % 8) ≡ at + c.args.count = omega arith in
+    c.push_some-2.ensures.items ∙ ap (λ (n : ℕ). map f (range_with_len 0 n)) all
