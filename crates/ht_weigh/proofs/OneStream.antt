@@ -1,6 +1,6 @@
 -- The weights of a job of one stream: the nearest vector of each half has the nearest levels with the bit.
 use Rattle.std.proofs.Common.{◌≡◌, ℕ, ◌+◌, ◌-◌, ◌*◌, ◌<◌, ◌≤◌, ℤ, pos, List, [], ◌∷◌, length, replicate, arith, refl, ap, sym, ◌∙◌, subst}
-use Rattle.std.proofs.Common.{Bool, true, false, not, ◌&&◌, Some, if◌then◌else◌, get_or, set, inl, inr}
+use Rattle.std.proofs.Common.{Bool, true, false, not, Some, if◌then◌else◌, get_or, set, inl, inr}
 use Rattle.std.specs.Prelude.{slice_index_or}
 use Rattle.std.proofs.lemmas.Bool.{and_parts}
 use Rattle.std.proofs.lemmas.List.{get_or-set_same, get_or-set_other}
@@ -10,7 +10,6 @@ use Rattle.ht_map.specs.Gray.{label_bit, label_of, point_of}
 use Rattle.ht_map.specs.Constellation.{axes_of}
 use Rattle.ht_map.proofs.LabelFacts.{label_of-point_of}
 use Rattle.ht_pam.specs.Ladders.{has, IsLadder}
-use Rattle.ht_pam.specs.declared.axes.Axes.{Axes}
 use Rattle.ht_pam.specs.declared.point.Point.{Point}
 use Rattle.ht_metric.specs.Distance.{distance_of}
 use Rattle.ht_metric.specs.Vectors.{is_in, levels_of}
@@ -26,7 +25,7 @@ use Rattle.ht_soft.specs.Halves.{has_bit, half_axes, half_of}
 use Rattle.ht_soft.specs.Weights.{weight_of, weight_at}
 use Rattle.ht_weigh.specs.Walks.{half_cost, IsNamed}
 use Rattle.ht_weigh.specs.Weights.{AreWeights}
-use Rattle.ht_weigh.proofs.Leaf.{IsFirst, at_cost, first_axes, first_has, first_is, from_half, half_ladders, into_half, least, named_bit, there, under}
+use Rattle.ht_weigh.proofs.Leaf.{IsFirst, at_cost, first_has, from_half, half_ladders, into_half, least, named_bit, there, under}
 use Rattle.ht_weigh.proofs.Leaf.{i_ladder, q_ladder}
 use Rattle.ht_weigh.proofs.Labels.{below_next}
 use Rattle.ht_weigh.proofs.Whole.{least_of, in_half, half_near, not_nearer}

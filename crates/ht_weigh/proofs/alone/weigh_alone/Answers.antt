@@ -1,4 +1,4 @@
-use Rattle.std.proofs.Common.{rules, ◌≡◌, ◌∙◌, ℕ, ℤ, List, get_or, SFits, w8, w64, to_z, of_z, to_z-of_z, arith, refl, sym, ap, subst}
+use Rattle.std.proofs.Common.{rules, ◌≡◌, ◌∙◌, ℕ, ℤ, List, get_or, SFits, w8, w64, to_z-of_z, arith, refl, sym, ap, subst}
 use Rattle.ht_rate.specs.declared.kinds.Modulation.{Modulation}
 use Rattle.ht_map.specs.Constellation.{axes_of}
 use Rattle.ht_map.specs.Gray.{label_of}
@@ -7,7 +7,6 @@ use Rattle.ht_pam.specs.Ladders.{Rungs}
 use Rattle.ht_pam.specs.declared.axes.Axes.{Axes}
 use Rattle.ht_pam.specs.declared.point.Point.{Point}
 use Rattle.ht_sphere.specs.Coordinates.{first_of, i_at, q_at}
-use Rattle.ht_weigh.specs.Walks.{first_cost}
 use Rattle.ht_weigh.specs.Weights.{AreWeights}
 use Rattle.ht_weigh.proofs.Leaf.{first_axes, first_costs, first_is, has_label}
 use Rattle.ht_weigh.proofs.OneStream.{weights_alone}

@@ -1,4 +1,4 @@
-use Rattle.std.proofs.Common.{rules, ◌≡◌, ◌∙◌, ◌<◌, ℕ, ℤ, pos, false, true, SFits, w32, to_z-of_z, arith, refl}
+use Rattle.std.proofs.Common.{rules, ◌∙◌, ◌<◌, false, true, SFits, w32, to_z-of_z, arith, refl}
 use Rattle.std.proofs.Math.ListN.{length-set}
 use Rattle.ht_rate.specs.Schemes.{bits_of}
 use Rattle.ht_soft.specs.Weights.{weight_of}
