@@ -18,7 +18,7 @@ use Rattle.ht_weigh.specs.Leasts.{IsLowered, IsOf, place_of, side}
 use Rattle.ht_weigh.specs.Walks.{TellsLabel, TellsStream, TellsBehind, TellsOthers, half_cost}
 use Rattle.ht_weigh.proofs.Lowered.{lowered-not, lowered-then, lowered-as}
 
-below_next : (b e : ℕ) → b < e + 1 → (b < e) ⊎ (b ≡ e)
+pub below_next : (b e : ℕ) → b < e + 1 → (b < e) ⊎ (b ≡ e)
 below_next b e lt = elim (cases_lt b e) [ inl less ↦ inl less | inr more ↦ inr (omega arith) ]
 
 -- at most 24 bits on four streams

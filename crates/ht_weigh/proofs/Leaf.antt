@@ -100,7 +100,7 @@ first_bit : (m : Modulation) (e : ℕ) (value : Bool) (p : Point) (rest : List P
 unfolding has_bit
 first_bit m e value p rest = refl
 
-into_half : (m : Modulation) (e : ℕ) (value : Bool) (i q : ℤ) (rest : List Point) → e < bits_of m → has (axes_of m).i i ≡ true → has (axes_of m).q q ≡ true
+pub into_half : (m : Modulation) (e : ℕ) (value : Bool) (i q : ℤ) (rest : List Point) → e < bits_of m → has (axes_of m).i i ≡ true → has (axes_of m).q q ≡ true
     → has_bit m 1 e value (point i q ∷ rest) ≡ true → (has (half_axes m e value).i i ≡ true) × (has (half_axes m e value).q q ≡ true)
 into_half m e value i q rest within is_i is_q told =
     let p = point i q in
@@ -110,7 +110,7 @@ into_half m e value i q rest within is_i is_q told =
     and_parts (has (half_axes m e value).i i) (has (half_axes m e value).q q)
     (and_parts (has (half_axes m e value).i i && has (half_axes m e value).q q) true there).0
 
-from_half : (m : Modulation) (e : ℕ) (value : Bool) (i q : ℤ) (rest : List Point) → e < bits_of m
+pub from_half : (m : Modulation) (e : ℕ) (value : Bool) (i q : ℤ) (rest : List Point) → e < bits_of m
     → has (half_axes m e value).i i ≡ true → has (half_axes m e value).q q ≡ true
     → (has (axes_of m).i i ≡ true) × (has (axes_of m).q q ≡ true) × (has_bit m 1 e value (point i q ∷ rest) ≡ true)
 from_half m e value i q rest within is_i is_q =
@@ -161,7 +161,7 @@ is-self true = refl
 is-self false = refl
 
 -- a point has the bits of its label
-named_bit : (m : Modulation) (e label : ℕ) (p : Point) (rest : List Point) → label_of m p ≡ Some label
+pub named_bit : (m : Modulation) (e label : ℕ) (p : Point) (rest : List Point) → label_of m p ≡ Some label
     → has_bit m 1 e (label_bit m label e) (p ∷ rest) ≡ true
 unfolding has_bit
 named_bit m e label p rest named = ap (label_has m e (label_bit m label e)) named ∙ is-self (label_bit m label e)
@@ -188,7 +188,7 @@ module _ (m : Modulation) (q i : Real) (s : List ℤ) (re im : ℤ) (d p : ℕ) 
   cost_i x y = sym (ap (λ (t : ℤ). at_cost t d y) (first.re_is x) ∙ ap (λ (n : ℕ). at_cost (target i (x ∷ s)) n y) first.d_i)
 
   -- a vector has a level of each, and their costs
-  record IsUnder (v : Reached) : Type 0 where
+  pub record IsUnder (v : Reached) : Type 0 where
     pub x : ℤ
     pub y : ℤ
     pub has_x : has (axes_of m).q x ≡ true
@@ -196,7 +196,7 @@ module _ (m : Modulation) (q i : Real) (s : List ℤ) (re im : ℤ) (d p : ℕ) 
     pub levels_are : v.0 ≡ y ∷ x ∷ s
     pub distance_is : v.1 ≡ p + (at_cost im d x + at_cost re d y)
 
-  under : (v : Reached) → Among below v → IsUnder v
+  pub under : (v : Reached) → Among below v → IsUnder v
   under v h =
       let path = leaf_path (q ∷ i ∷ []) s p v h in
       let x = path.0 in
@@ -212,7 +212,7 @@ module _ (m : Modulation) (q i : Real) (s : List ℤ) (re im : ℤ) (d p : ℕ) 
       }
 
   -- and all of these are there
-  there : (x y : ℤ) → has (axes_of m).q x ≡ true → has (axes_of m).i y ≡ true → Among below (y ∷ x ∷ s, p + (at_cost im d x + at_cost re d y))
+  pub there : (x y : ℤ) → has (axes_of m).q x ≡ true → has (axes_of m).i y ≡ true → Among below (y ∷ x ∷ s, p + (at_cost im d x + at_cost re d y))
   there x y has_x has_y =
       let sum : p + (at_cost im d x + at_cost re d y) ≡ p + cost q s x + cost i (x ∷ s) y = omega (arith, cost_q x, cost_i x y) in
       path_leaf (q ∷ i ∷ []) s p (y ∷ x ∷ s, p + (at_cost im d x + at_cost re d y)) (
@@ -387,6 +387,12 @@ full_ladders Qam64 = refl
 -- the ladders of the first stream
 pub first_axes : (m : Modulation) (grid : List Axes) → grid ≡ replicate (length grid) (axes_of m) → 1 ≤ length grid → get_or grid 0 no_axes ≡ axes_of m
 first_axes m grid full some = ap (λ (g : List Axes). get_or g 0 no_axes) full ∙ get_or-replicate (length grid) 0 (axes_of m) no_axes some
+
+pub i_ladder : (m : Modulation) → IsLadder (axes_of m).i
+i_ladder m = ladder_from (axes_of m).i (and_parts (is_ladder (axes_of m).i) (is_ladder (axes_of m).q) (full_ladders m)).0
+
+pub q_ladder : (m : Modulation) → IsLadder (axes_of m).q
+q_ladder m = ladder_from (axes_of m).q (and_parts (is_ladder (axes_of m).i) (is_ladder (axes_of m).q) (full_ladders m)).1
 
 pub first_is : (m : Modulation) (q i : Real) (a : Axes) (s : List ℤ) (re im : ℤ) (d : ℕ) → a ≡ axes_of m → q.ladder ≡ a.q → i.ladder ≡ a.i → d ≡ q.diagonal
     → d ≡ i.diagonal → im ≡ target q s → ((x : ℤ) → re ≡ target i (x ∷ s)) → IsFirst m q i s re im d

@@ -4,3 +4,4 @@ pub mod Leaf
 pub mod Across
 pub mod Walking
 pub mod Whole
+pub mod OneStream

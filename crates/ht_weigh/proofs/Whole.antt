@@ -155,7 +155,7 @@ module _ (m : Modulation) (job : JobView) (is_job : IsJob job) (full : job.grid 
   half stream e value = half_of m stream e value job.number job
 
   -- the least distance of a half
-  abbrev least_of : ℕ → ℕ → Bool → ℕ
+  abbrev pub least_of : ℕ → ℕ → Bool → ℕ
   least_of stream e value = (near (half stream e value)).distance
 
   module _ (stream e : ℕ) (first : 1 ≤ stream) (last : stream ≤ length job.grid) (within : e < bits_of m) where
@@ -169,16 +169,16 @@ module _ (m : Modulation) (job : JobView) (is_job : IsJob job) (full : job.grid 
           ladders = All-set AreLadders job.grid (stream - 1) (half_axes m e value) record { i = ladders.0; q = ladders.1 } is_job.grid.ladders;
         }
 
-    half_near : (value : Bool) → IsNear (half stream e value) (near (half stream e value)).vector
+    pub half_near : (value : Bool) → IsNear (half stream e value) (near (half stream e value)).vector
     unfolding half_of
     half_near value = is_near (half stream e value) (good_grid value)
 
-    in_half : (value : Bool) (x : List Point) → is_in (half stream e value).grid x ≡ (is_in job.grid x && has_bit m stream e value x)
+    pub in_half : (value : Bool) (x : List Point) → is_in (half stream e value).grid x ≡ (is_in job.grid x && has_bit m stream e value x)
     unfolding half_of
     in_half value x = half-vectors m stream e value job.grid (half_grid_of m stream e value job.grid) x full first last within refl
 
     -- no vector with the bit is nearer
-    not_nearer : (value : Bool) (x : List Point) → is_in job.grid x ≡ true → has_bit m stream e value x ≡ true
+    pub not_nearer : (value : Bool) (x : List Point) → is_in job.grid x ≡ true → has_bit m stream e value x ≡ true
         → least_of stream e value ≤ distance_of job.system x
     unfolding half_of
     not_nearer value x on told = (half_near value).nearest x (in_half value x ∙ and_from (is_in job.grid x) (has_bit m stream e value x) on told)

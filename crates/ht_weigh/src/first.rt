@@ -1,20 +1,16 @@
 //! The first stream in closed form.
-ghost use Rattle.std.specs.Prelude.{◌≡◌, ◌<◌, ◌≤◌, ◌+◌, ◌^◌, length, not, replicate, unsigned_abs};
-ghost use Rattle.ht_rate.specs.declared.kinds.Modulation.{Modulation};
+ghost use Rattle.std.specs.Prelude.{◌≡◌, ◌<◌, ◌≤◌, ◌+◌, ◌^◌, length, not, unsigned_abs};
 ghost use Rattle.ht_rate.specs.Schemes.{bits_of};
-ghost use Rattle.ht_map.specs.Constellation.{axes_of};
 ghost use Rattle.ht_map.specs.Gray.{label_bit, point_of};
-ghost use Rattle.ht_metric.specs.Jobs.{near};
 ghost use Rattle.ht_sphere.specs.Coordinates.{first_of};
 ghost use Rattle.ht_weigh.specs.Leasts.{place_of, IsOf, IsLowered};
-ghost use Rattle.ht_weigh.specs.Walks.{first_cost, half_cost, IsAcross, IsNamed, TellsOthers};
+ghost use Rattle.ht_weigh.specs.Walks.{half_cost, IsAcross, IsNamed, TellsOthers};
 
 use crate::leasts::{half, lower};
 use crate::streams::is_one;
-use ht_metric::Job;
-use ht_pam::{Axes, Ladder, Point};
+use ht_pam::{Axes, Point};
 use ht_rate::Modulation;
-use ht_sphere::remainder::{Remainder, cost, remainder_of};
+use ht_sphere::remainder::{Remainder, cost};
 
 // The nearest levels with another bit: a table for one, two and three bits that name a level, with a row for each of these bits,
 // and in it a level for each name. Of the levels named by 000, 001, 011, 010, 110, 111, 101 and 100, from -7 to 7, that is
@@ -47,28 +43,6 @@ fn across(count: u8, bit: u8, name: u8) -> i8
     ACROSS[usize::from(count - 1)][usize::from(bit)][usize::from(name)]
 }
 
-// What the nearest level of a ladder leaves of a target, squared.
-#[inline(always)]
-fn nearest_cost(ladder: Ladder, target: i64, d: u16) -> u64
-    requires { unsigned_abs target ≤ 2 ^ 31 + 2 ^ 21 }
-    ensures value { result ≡ first_cost ladder target d }
-    ensures bound { result ≤ 2 ^ 62 + 2 ^ 55 }
-{
-    cost(d, target, ladder.nearest(target, u32::from(d)))
-}
-
-// The least distance of a job of one stream, on which I and Q stand alone.
-pub(crate) fn least_alone(job: &Job) -> u128
-    requires one { length job.now.system ≡ 1 }
-    ensures distance { (m : Modulation) → job.now.grid ≡ replicate (length job.now.grid) (axes_of m) → result ≡ (near job.now).distance }
-    ensures below { result < 2 ^ 66 }
-{
-    let left = remainder_of(job, 1, &[0, 0]);
-    let of_i = nearest_cost(job.grid().i_ladder(1), left.re, left.d);
-    let of_q = nearest_cost(job.grid().q_ladder(1), left.im, left.d);
-    u128::from(of_q + of_i)
-}
-
 // The nearest point of the first stream: the nearest level of I and that of Q.
 pub(crate) fn nearest_point(all: &Axes, left: &Remainder) -> Point
     requires re { unsigned_abs left.now.re ≤ 2 ^ 31 + 2 ^ 21 }
@@ -88,7 +62,7 @@ pub(crate) fn nearest_point(all: &Axes, left: &Remainder) -> Point
 // What the nearest levels of the half with the other bit cost together, where the nearest point of all has this label, and its
 // levels have these costs.
 #[inline(always)]
-fn other_cost(
+pub(crate) fn other_cost(
     modulation: Modulation,
     left: &Remainder,
     label: u8,

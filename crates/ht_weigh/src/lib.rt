@@ -7,9 +7,11 @@
 //! least distance were the clip, since the weight is cut there.
 //!
 //! The walk ends above the first stream: I and Q of it stand alone there, so the least distance of a half is that of the
-//! nearest levels with the bit, which a table gives. On one stream nothing is searched or walked.
+//! nearest levels with the bit, which a table gives. On one stream nothing is searched or walked: the weights are written at
+//! once.
 #![tactic(auto)]
 
+mod alone;
 mod first;
 mod leasts;
 mod streams;

@@ -1,6 +1,5 @@
 //! All weights of a job.
 ghost use Rattle.std.specs.Prelude.{◌≡◌, ◌*◌, ◌+◌, ◌<◌, ◌^◌, ◌≤◌, ℕ, [], pos, length, replicate, slice_index, slice_index_or};
-ghost use Rattle.ht_rate.specs.declared.kinds.Modulation.{Modulation};
 ghost use Rattle.ht_rate.specs.Schemes.{bits_of};
 ghost use Rattle.ht_map.specs.Constellation.{axes_of};
 ghost use Rattle.ht_metric.specs.Jobs.{IsJob, near};
@@ -11,7 +10,7 @@ ghost use Rattle.ht_weigh.specs.Leasts.{IsLowered};
 ghost use Rattle.ht_weigh.specs.Walks.{Tells};
 ghost use Rattle.ht_weigh.specs.Weights.{AreWeights};
 
-use crate::first::least_alone;
+use crate::alone::weigh_alone;
 use crate::leasts::all_at;
 use crate::walk::walk;
 use ht_metric::Job;
@@ -40,6 +39,9 @@ pub fn weigh(modulation: Modulation, job: &Job, weights: &mut [i32]) -> u128
     ensures distance { result ≡ (near job.now).distance }
     ensures below { result < 2 ^ 66 }
 {
+    if job.system().streams() == 1 {
+        return weigh_alone(modulation, job, weights);
+    }
     weigh_by::<Brand>(modulation, job, weights, Blank::new(1))
 }
 
@@ -55,23 +57,12 @@ fn weigh_by<L: Ledger>(modulation: Modulation, job: &Job, weights: &mut [i32], b
     ensures below { result < 2 ^ 66 }
 {
     let mut steps = Steps::<L>::new(blank);
-    let least = least_distance(job, &mut steps);
+    let least = find(job, &mut steps).distance;
     let clip = least + HEAVIEST;
     let mut leasts = all_at(clip);
     lower_all(modulation, job, clip, &mut leasts, &mut steps);
     write(weights, &leasts);
     least
-}
-
-// The least distance of a job. On one stream nothing is searched.
-fn least_distance<L: Ledger>(job: &Job, steps: &mut Steps<L>) -> u128
-    ensures distance { (m : Modulation) → job.now.grid ≡ replicate (length job.now.grid) (axes_of m) → result ≡ (near job.now).distance }
-    ensures below { result < 2 ^ 66 }
-{
-    if job.system().streams() == 1 {
-        return least_alone(job);
-    }
-    find(job, steps).distance
 }
 
 // Lowers the least distances to those of all vectors of the job.

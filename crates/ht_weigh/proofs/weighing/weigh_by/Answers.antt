@@ -2,6 +2,7 @@ use Rattle.std.proofs.Common.{◌≡◌, ◌∙◌, ◌+◌, ◌-◌, ◌*◌, �
 use Rattle.std.proofs.lemmas.List.{length-replicate}
 use Rattle.ht_rate.specs.Schemes.{bits_of}
 use Rattle.ht_metric.specs.Jobs.{near}
+use Rattle.ht_metric.specs.declared.found.Found.{Found}
 use Rattle.ht_sphere.specs.Coordinates.{from_last}
 use Rattle.ht_sphere.specs.Searching.{leaves}
 use Rattle.ht_weigh.specs.Leasts.{IsLowered}
@@ -14,7 +15,7 @@ write-requires g c =
     let job = c.lower_all.ensures.job in
     let few = bits_within c.args.modulation (length c.args.job.now.system) (omega (arith, job.streams, job.grid.few)) in
     let start : length c.all_at-leasts.result ≡ 48 =
-    ap (λ (l : List ℕ). length l) c.all_at-leasts.ensures ∙ length-replicate 48 (c.least_distance-least.result + 65535) in
+    ap (λ (l : List ℕ). length l) c.all_at-leasts.ensures ∙ length-replicate 48 (c.find-least.result.distance + 65535) in
     omega (arith, few, c.requires.size, c.lower_all.ensures.lowered.size, start)
 
 pub returns-clause-weights : goal.returns-clause-weights
@@ -22,8 +23,8 @@ returns-clause-weights g c =
     let m = c.args.modulation in
     let job = c.args.job.now in
     let is = c.lower_all.ensures.job in
-    let clip = c.least_distance-least.result + 65535 in
-    let enough : (near job).distance + 65535 ≤ clip = let same = c.least_distance-least.ensures.distance m c.requires.full in omega (arith, same) in
+    let clip = c.find-least.result.distance + 65535 in
+    let enough : (near job).distance + 65535 ≤ clip = let same = ap (λ (f : Found). f.distance) c.find-least.ensures.found in omega (arith, same) in
     let walked : IsLowered (Tells m (leaves (from_last job.system job.grid) [] 0)) (replicate 48 clip) c.lower_all.new.leasts =
     subst (λ (l : List ℕ). IsLowered (Tells m (leaves (from_last job.system job.grid) [] 0)) l c.lower_all.new.leasts) c.all_at-leasts.ensures
     c.lower_all.ensures.lowered in
@@ -38,4 +39,4 @@ returns-clause-weights g c =
     }
 
 pub returns-clause-distance : goal.returns-clause-distance
-returns-clause-distance g c = c.least_distance-least.ensures.distance c.args.modulation c.requires.full
+returns-clause-distance g c = ap (λ (f : Found). f.distance) c.find-least.ensures.found
