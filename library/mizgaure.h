@@ -244,8 +244,7 @@ uint32_t mizgaure_many(const uint8_t *bundle, size_t n, uint8_t *text, size_t te
 
 /* A size of `text` with which these calls never answer NO_ROOM for the capture, so that none is made twice. detect: 6 * n. rx and soft:
  * 32 + n / 2, rounded down, but at a capture of version 2 it is 32 and the less of 17 * n and 131177 for each frame. Only the version and
- * the number of frames are read, so any octets may be given. UINT64_MAX where the size has more than 64 bits, and of rx and soft from
- * 2^59 octets on. */
+ * the number of frames are read, so any octets may be given. A capture has less than 2^59 octets. */
 uint64_t mizgaure_detect_size(const uint8_t *capture, size_t n);
 uint64_t mizgaure_rx_size(const uint8_t *capture, size_t n);
 uint64_t mizgaure_soft_size(const uint8_t *capture, size_t n);

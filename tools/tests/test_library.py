@@ -104,6 +104,28 @@ def test_texts_are_those_of_the_vectors(command, some):
             assert said == text.read_bytes(), text.name
 
 
+@pytest.mark.parametrize("rate, n", [(Rate(20, 13), 1), (Rate(40, 31), 2)])
+def test_bits_that_are_laid_are_gathered(rate, n):
+    assert rate.encoders == n
+    bits = np.arange(rate.coded_bits) ** 2 % 11 < 4
+    first, second = (bits, ()) if n == 1 else np.split(bits, 2)
+    laid = library.lay(rate, first, second)
+    assert laid.shape == (rate.streams, rate.coded_bits_per_stream)
+    # The streams get s = 3 bits at a time in turn, from the encoders in turn (clause 20.3.11.8.2).
+    for k in range(rate.coded_bits):
+        turn, stream, bit = k // (3 * rate.streams), k // 3 % rate.streams, k % 3
+        source = (first, second)[turn % n]
+        assert laid[stream, 3 * turn + bit] == source[3 * (turn // n * rate.streams + stream) + bit]
+    back = library.gather(rate, laid)
+    assert (back[0] == first).all() and back[1].size == (n - 1) * back[0].size and (n == 1 or (back[1] == second).all())
+    with pytest.raises(library.BadLength):
+        library.lay(rate, first[1:], second)
+    with pytest.raises(library.BadLength):
+        library.lay(rate, first, np.ones(3, np.bool_))
+    with pytest.raises(library.BadLength):
+        library.gather(rate, laid[:, 1:])
+
+
 @pytest.mark.parametrize("command", ["detect", "rx", "soft"])
 def test_a_size_suffices_for_each_capture_of_the_vectors(command):
     size, captures = getattr(library, f"{command}_size"), 0
@@ -378,3 +400,5 @@ def test_files_of_the_commands():
     bundle = b"HTMB\x01\x01" + len(capture).to_bytes(4, "big") + capture
     assert library.many(bundle) == b"capture 0\n" + library.rx(capture)
     assert library.legacy_channel(b"LGTX\x01\x00\x00") == b"LGCP\x01\x00\x00"
+    passed = library.legacy_channel(b"LGTX\x01\x00\x01\x00\x00\x01\x7f\xa5")
+    assert library.lrx(passed) == b"frame 0 data 0 pilot 0 code 0 octets a5\nend 1 frames\n"  # docs/LEGACY.md

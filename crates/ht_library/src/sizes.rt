@@ -28,7 +28,7 @@ fn room(capture: &[u8]) -> u64
 }
 
 /// A size that suffices for the text of [`mizgaure_detect`](crate::captures::mizgaure_detect) for a capture: six octets for
-/// each of the capture's. It is 2^64 - 1 where a capture of 2^59 octets or more would need more.
+/// each of the capture's.
 #[unsafe(no_mangle)]
 pub extern "C" fn mizgaure_detect_size(capture: &[u8]) -> u64
     ensures value { length capture.now < 2 ^ 59 → result ≡ jobs_room (length capture.now) }
@@ -39,7 +39,7 @@ pub extern "C" fn mizgaure_detect_size(capture: &[u8]) -> u64
 
 /// A size that suffices for the text of [`mizgaure_rx`](crate::captures::mizgaure_rx) for a capture: half of the capture's size in
 /// version 1, and some more; in version 2, whose symbols may be short, 17 times its size, or the most that its number of frames
-/// takes. It is 2^64 - 1 for a capture of 2^59 octets or more.
+/// takes.
 #[unsafe(no_mangle)]
 pub extern "C" fn mizgaure_rx_size(capture: &[u8]) -> u64
     ensures value { length capture.now < 2 ^ 59 → result ≡ room_said capture.now }
