@@ -659,27 +659,7 @@ pub fn run(words: &[String]) -> bool {
 #[cfg(test)]
 mod tests {
     use super::run_on;
-    use std::path::Path;
-
-    /// The files of vectors/ of a kind, with the text that is due.
-    fn vectors(ending: &str, text: &str) -> Vec<(String, Vec<u8>, Vec<u8>)> {
-        let mut found = Vec::new();
-        for folder in std::fs::read_dir(Path::new(env!("CARGO_MANIFEST_DIR")).join("../../vectors")).unwrap() {
-            let Ok(files) = std::fs::read_dir(folder.unwrap().path()) else { continue };
-            for file in files {
-                let path = file.unwrap().path();
-                let due = path.with_extension(text);
-                if path.extension().is_some_and(|extension| extension == ending) && due.exists() {
-                    let octets = std::fs::read(&path).unwrap();
-                    // What refused to become a capture is none.
-                    if !octets.starts_with(b"refused ") {
-                        found.push((path.display().to_string(), octets, std::fs::read(due).unwrap()));
-                    }
-                }
-            }
-        }
-        found
-    }
+    use crate::tests::vectors;
 
     #[test]
     fn the_texts_are_those_of_the_vectors() {
