@@ -169,7 +169,8 @@ static void parser(void) {
     EXPECT(mizgaure_gather(0, 13, bits, N, back, N, back, 0) == MIZGAURE_DONE && !memcmp(back, first, N));
     memset(back, 1, N);
     EXPECT(mizgaure_lay(2, 13, first, N, first, 0, back, N) == MIZGAURE_NO_RATE && mizgaure_lay(0, 13, first, N, first, 1, back, N) == MIZGAURE_BAD_LENGTH);
-    EXPECT(mizgaure_gather(0, 13, bits, N - 1, back, N, back, 0) == MIZGAURE_BAD_LENGTH && mizgaure_gather(0, 99, bits, N, back, N, back, 0) == MIZGAURE_NO_RATE);
+    EXPECT(mizgaure_gather(0, 13, bits, N - 1, back, N, back, 0) == MIZGAURE_BAD_LENGTH);
+    EXPECT(mizgaure_gather(0, 99, bits, N, back, N, back, 0) == MIZGAURE_NO_RATE);
     EXPECT(kept(back, N, 1));
 }
 
@@ -185,10 +186,13 @@ static void encoders(void) {
     EXPECT(mizgaure_join(0, 31, first, 5, second, 0, back, 5) == MIZGAURE_DONE && !memcmp(back, bits, 5) && back[5]);
     memset(first, 1, 6), memset(second, 1, 6), memset(back, 1, 6);
     EXPECT(mizgaure_split(2, 31, bits, 6, first, 3, second, 3) == MIZGAURE_NO_RATE && mizgaure_split(1, 32, bits, 6, first, 3, second, 3) == MIZGAURE_NO_RATE);
-    EXPECT(mizgaure_split(1, 31, bits, 5, first, 2, second, 2) == MIZGAURE_BAD_LENGTH && mizgaure_split(1, 31, bits, 6, first, 3, second, 2) == MIZGAURE_BAD_LENGTH);
-    EXPECT(mizgaure_split(0, 31, bits, 6, first, 3, second, 3) == MIZGAURE_BAD_LENGTH && mizgaure_split(0, 31, bits, 6, first, 6, second, 1) == MIZGAURE_BAD_LENGTH);
+    EXPECT(mizgaure_split(1, 31, bits, 5, first, 2, second, 2) == MIZGAURE_BAD_LENGTH);
+    EXPECT(mizgaure_split(1, 31, bits, 6, first, 3, second, 2) == MIZGAURE_BAD_LENGTH);
+    EXPECT(mizgaure_split(0, 31, bits, 6, first, 3, second, 3) == MIZGAURE_BAD_LENGTH);
+    EXPECT(mizgaure_split(0, 31, bits, 6, first, 6, second, 1) == MIZGAURE_BAD_LENGTH);
     EXPECT(mizgaure_join(2, 31, bits, 3, bits, 3, back, 6) == MIZGAURE_NO_RATE && mizgaure_join(1, 31, bits, 3, bits, 2, back, 6) == MIZGAURE_BAD_LENGTH);
-    EXPECT(mizgaure_join(1, 31, bits, 3, bits, 3, back, 5) == MIZGAURE_BAD_LENGTH && mizgaure_join(1, 31, bits, SIZE_MAX / 2, bits, SIZE_MAX / 2, back, 6) == MIZGAURE_BAD_LENGTH);
+    EXPECT(mizgaure_join(1, 31, bits, 3, bits, 3, back, 5) == MIZGAURE_BAD_LENGTH);
+    EXPECT(mizgaure_join(1, 31, bits, SIZE_MAX / 2, bits, SIZE_MAX / 2, back, 6) == MIZGAURE_BAD_LENGTH);
     EXPECT(kept(first, 6, 1) && kept(second, 6, 1) && kept(back, 6, 1));
 }
 

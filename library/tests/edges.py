@@ -27,7 +27,8 @@ def calls(header):
     for answer, name, inside in re.findall(r"^(uint32_t|uint64_t) mizgaure_(\w+)\(([^)]*)\);", bare, re.MULTILINE):
         parts = [part.split() for part in inside.replace("*", "* ").split(",")] if inside != "void" else []
         pairs = [(" ".join(words[:-1]), words[-1]) for words in parts] + [("", "")]
-        yield name, answer, [Parameter(kind, word, after[1] if kind.endswith("*") and after[0] == "size_t" else "") for (kind, word), after in zip(pairs, pairs[1:])]
+        sizes = [after[1] if kind.endswith("*") and after[0] == "size_t" else "" for (kind, _), after in zip(pairs, pairs[1:])]
+        yield name, answer, [Parameter(kind, word, size) for (kind, word), size in zip(pairs, sizes)]
 
 
 HEAD = r"""#define _DEFAULT_SOURCE
