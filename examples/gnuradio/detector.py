@@ -1,8 +1,7 @@
 """A block for GNU Radio: a symbol's received samples in, its detected points and distances out, by the proved library.
 
 Items are whole symbols of data subcarriers. GNU Radio's buffers are passed to the library as they are, so nothing is copied. The
-channels hold for a frame, and are set between frames by `set_channels` or by a message at the port `channels`, a dictionary whose
-`channels` is the array.
+channels hold until `set_channels` sets others, from the block's next call of `work` on: between frames, while no symbols flow.
 """
 
 import numpy as np
