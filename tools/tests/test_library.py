@@ -420,3 +420,5 @@ def test_files_of_the_commands():
     bundle = b"HTMB\x01\x01" + len(capture).to_bytes(4, "big") + capture
     assert library.many(bundle) == b"capture 0\n" + library.rx(capture)
     assert library.legacy_channel(b"LGTX\x01\x00\x00") == b"LGCP\x01\x00\x00"
+    passed = library.legacy_channel(b"LGTX\x01\x00\x01\x00\x00\x01\x7f\xa5")
+    assert library.lrx(passed) == b"frame 0 data 0 pilot 0 code 0 octets a5\nend 1 frames\n"  # docs/LEGACY.md
