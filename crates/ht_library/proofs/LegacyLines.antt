@@ -27,6 +27,7 @@ use Rattle.ht_capture_laws.proofs.Lists.{all_map, all_range}
 use Rattle.ht_inverse.specs.declared.outcome.Outcome.TheVariants.{Octets}
 use Rattle.ht_clause18.specs.declared.rates.LegacyRate.{LegacyRate}
 use Rattle.ht_clause18.specs.Carriers.{carrier_of}
+use Rattle.ht_clause18.specs.Pilots.{pilot_of}
 use Rattle.ht_clause18.specs.Rates.{data_bits_of, modulation_of, needed_bits, pattern_of, symbols_of}
 use Rattle.ht_clause18.proofs.RateFacts.{data_bits_of-range}
 use Rattle.ht_conv.specs.Puncturing.{sent_count}
@@ -60,7 +61,7 @@ either_mask false = (omega arith, omega arith)
 axes_good : (r : LegacyRate) (symbol : ℕ) (c : Carrier) → AreLadders (axes_for r symbol c)
 axes_good r symbol (Data m) = ladders (modulation_of r)
 axes_good r symbol (Pilot k) =
-    let mask = either_mask (int_eq _ (pos 1)) in
+    let mask = either_mask (int_eq (pilot_of symbol k) (pos 1)) in
     record { i = record { size = inr (inl refl); some = mask.0; within = mask.1 }; q = record { size = inl refl; some = omega arith; within = omega arith } }
 
 grid_good : (r : LegacyRate) (symbol carrier : ℕ) → IsGrid (grid_at r symbol carrier)
