@@ -6,7 +6,7 @@ use Rattle.std.proofs.Math.Seq.{take-add}
 use Rattle.std.proofs.lemmas.Grind.{flat_map-append}
 use Rattle.std.proofs.lemmas.List.{append-nil, get_or-drop, length-drop, take_more}
 use Rattle.std.proofs.lemmas.List.Elements.{filter-append}
-use Rattle.std.proofs.lemmas.List.Sums.{sum_by-append}
+use Rattle.std.proofs.lemmas.List.Sums.{sum_by-append, sum_by-cons}
 use Rattle.std.proofs.lemmas.Option.{slice_get-get_or}
 use Rattle.ht_capture.specs.declared.items.FrameHead.{FrameHead}
 use Rattle.ht_capture_laws.proofs.Lists.{range_append}
@@ -62,9 +62,12 @@ module _ (head : FrameHead) where
       → IsTally label_plan head (job ∷ []) 1 d 0 (places_as label_plan head job (Data m)) (kept_as label_plan head job (Data m))
   one_tally job m d kind is few =
       let here : on_data_by label_plan head job ≡ true = ap (λ (c : Carrier). is_data c) kind in
+      let cons = sum_by-cons (λ (j : JobView). (near j).distance) job [] in
+      let none : distances [] ≡ 0 = refl in
+      let single : d ≡ distances (job ∷ []) = omega (arith, is, cons, none) in
       record {
         count = refl;
-        of_data = is ∙ sym (ap (λ (b : Bool). distances (if b then job ∷ [] else [])) here);
+        of_data = single ∙ sym (ap (λ (b : Bool). distances (if b then job ∷ [] else [])) here);
         of_pilots = sym (ap (λ (b : Bool). distances (if not b then job ∷ [] else [])) here);
         places = sym (ap (λ (c : Carrier). places_as label_plan head job c ++ []) kind ∙ append-nil (places_as label_plan head job (Data m)));
         values = sym (ap (λ (c : Carrier). kept_as label_plan head job c ++ []) kind ∙ append-nil (kept_as label_plan head job (Data m)));
@@ -72,16 +75,19 @@ module _ (head : FrameHead) where
       }
 
   -- no job
-  pub run_none : (lanes : Labelled) (jobs : List JobView) (n first place streams : ℕ)
-      → IsTally label_plan head (jobs_behind jobs n 0) 0 0 0 (range_with_len place (0 * streams)) (lane_labels lanes first 0)
-  run_none lanes jobs n first place streams = record {
-    count = refl;
-    of_data = refl;
-    of_pilots = refl;
-    places = refl;
-    values = refl;
-    bounded = omega arith;
-  }
+  pub run_none : (lanes : Labelled) (jobs : List JobView) (n first place streams j : ℕ) → j ≡ 0
+      → IsTally label_plan head (jobs_behind jobs n j) j 0 0 (range_with_len place (j * streams)) (lane_labels lanes first j)
+  run_none lanes jobs n first place streams j is =
+      let nothing : 0 * streams ≡ 0 = omega arith in
+      let none : IsTally label_plan head (jobs_behind jobs n 0) 0 0 0 (range_with_len place (0 * streams)) (lane_labels lanes first 0) = record {
+        count = refl;
+        of_data = refl;
+        of_pilots = refl;
+        places = ap (λ (w : ℕ). range_with_len place w) nothing;
+        values = refl;
+        bounded = omega arith;
+      } in
+      subst (λ (i : ℕ). IsTally label_plan head (jobs_behind jobs n i) i 0 0 (range_with_len place (i * streams)) (lane_labels lanes first i)) (sym is) none
 
   place_more : (symbol m c : ℕ) → place_by label_plan head symbol (m + c) ≡ place_by label_plan head symbol m + c * streams_in head
   place_more symbol m c =
@@ -96,19 +102,19 @@ module _ (head : FrameHead) where
       spread a b w = grind arith
 
   -- one more job of a run, as its lane has it
-  pub run_more : (lanes : Labelled) (jobs : List JobView) (n first c k symbol m d e : ℕ) (place : Place)
-      → lanes.streams ≡ streams_in head → lanes.streams ≤ 4 → k ≡ first + c → n + c < length jobs → e ≡ slice_index lanes.distance k → e ≤ 2 ^ 66
+  pub run_more : (lanes : Labelled) (jobs : List JobView) (n first c k i symbol m d e : ℕ) (place : Place)
+      → lanes.streams ≡ streams_in head → lanes.streams ≤ 4 → k ≡ first + c → i ≡ n + c → i < length jobs → e ≡ slice_index lanes.distance k → e ≤ 2 ^ 66
       → 0 < slice_index lanes.sure k → place.symbol ≡ symbol → label_plan.kind head place.carrier ≡ Data (m + c)
-      → IfSome (slice_get jobs (n + c)) (λ job. job.place ≡ place)
-      → IsLabelledAt (label_at (modulation_of head.rate)) jobs (n + c) lanes k
+      → IfSome (slice_get jobs i) (λ job. job.place ≡ place)
+      → IsLabelledAt (label_at (modulation_of head.rate)) jobs i lanes k
       → IsTally label_plan head (jobs_behind jobs n c) c d 0 (range_with_len (place_by label_plan head symbol m) (c * lanes.streams)) (lane_labels lanes first c)
       → IsTally label_plan head (jobs_behind jobs n (c + 1)) (c + 1) (d + e) 0 (range_with_len (place_by label_plan head symbol m) ((c + 1) * lanes.streams))
       (lane_labels lanes first (c + 1))
-  run_more lanes jobs n first c k symbol m d e place streams few lane lt has small sure on kind at says is =
+  run_more lanes jobs n first c k i symbol m d e place streams few lane index lt has small sure on kind at says is =
       let s = lanes.streams in
       let p = place_by label_plan head symbol m in
-      let job = get_or jobs (n + c) no_job in
-      let got : slice_get jobs (n + c) ≡ Some job = slice_get-get_or jobs (n + c) no_job lt in
+      let job = get_or jobs i no_job in
+      let got : slice_get jobs i ≡ Some job = slice_get-get_or jobs i no_job lt in
       let here : job.place ≡ place = subst (λ (o : Option JobView). IfSome o (λ j. j.place ≡ place)) got at in
       let hit : 0 < slice_index lanes.sure k → IsLabelled (label_at (modulation_of head.rate)) lanes k job =
       subst (λ (o : Option JobView). IfSome o (λ j. 0 < slice_index lanes.sure k → IsLabelled (label_at (modulation_of head.rate)) lanes k j)) got says in
@@ -125,7 +131,7 @@ module _ (head : FrameHead) where
       let one = one_tally job (m + c) e carries (has ∙ found.distance) small in
       let both = joined (jobs_behind jobs n c) (job ∷ []) c 1 (c + 1) d e (d + e) 0 0 0 (range_with_len p (c * s))
       (places_as label_plan head job (Data (m + c))) (lane_labels lanes first c) (label_plan.values head job) refl refl refl is one in
-      let more_jobs : jobs_behind jobs n (c + 1) ≡ jobs_behind jobs n c ++ job ∷ [] = behind_more jobs n c lt in
+      let more_jobs : jobs_behind jobs n (c + 1) ≡ jobs_behind jobs n c ++ job ∷ [] = behind_more jobs n c i index lt in
       let more_places : range_with_len p ((c + 1) * s) ≡ range_with_len p (c * s) ++ places_as label_plan head job (Data (m + c)) =
       ap (λ (w : ℕ). range_with_len p w) (next c s) ∙ (range_append p (c * s) s ∙ ap (λ (l : List ℕ). range_with_len p (c * s) ++ l) (sym there)) in
       let more_labels : lane_labels lanes first (c + 1) ≡ lane_labels lanes first c ++ label_plan.values head job =
@@ -142,11 +148,14 @@ module _ (head : FrameHead) where
       next : (c s : ℕ) → (c + 1) * s ≡ c * s + s
       next c s = grind arith
 
-      behind_more : (jobs : List JobView) (n c : ℕ) → n + c < length jobs
-          → jobs_behind jobs n (c + 1) ≡ jobs_behind jobs n c ++ get_or jobs (n + c) no_job ∷ []
-      behind_more jobs n c lt =
-          let inside : c < length (drop n jobs) = omega (arith, lt, length-drop n jobs) in
-          take_more (drop n jobs) c no_job inside ∙ ap (λ (j : JobView). take c (drop n jobs) ++ j ∷ []) (get_or-drop n jobs c no_job)
+      behind_more : (jobs : List JobView) (n c i : ℕ) → i ≡ n + c → i < length jobs
+          → jobs_behind jobs n (c + 1) ≡ jobs_behind jobs n c ++ get_or jobs i no_job ∷ []
+      behind_more jobs n c i is lt =
+          let left = length-drop n jobs in
+          let inside : c < length (drop n jobs) = omega (arith, lt, is, left) in
+          take_more (drop n jobs) c no_job inside
+          ∙ (ap (λ (j : JobView). take c (drop n jobs) ++ j ∷ []) (get_or-drop n jobs c no_job)
+          ∙ ap (λ (q : ℕ). take c (drop n jobs) ++ get_or jobs q no_job ∷ []) (sym is))
 
       labels_more : (lanes : Labelled) (first c k : ℕ) → k ≡ first + c → lane_labels lanes first (c + 1) ≡ lane_labels lanes first c ++ labels_in lanes k
       labels_more lanes first c k is =

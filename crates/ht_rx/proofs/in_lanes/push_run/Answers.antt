@@ -1,0 +1,49 @@
+use Rattle.std.proofs.Common.{◌≡◌, ◌∙◌, ◌+◌, ◌-◌, ◌*◌, ◌^◌, ◌≤◌, ◌++◌, ℕ, ap, append-assoc, arith, subst, sym}
+use Rattle.std.specs.List.{range_with_len}
+use Rattle.std.proofs.lemmas.List.{append-nil}
+use Rattle.ht_frames.specs.Tallies.{IsTally}
+use Rattle.ht_rate.specs.declared.kinds.Carrier.{Carrier}
+use Rattle.ht_rate.specs.declared.kinds.Carrier.TheVariants.{Data}
+use Rattle.ht_results.specs.Folding.{label_plan}
+use Rattle.ht_results.specs.Plans.{place_by}
+use Rattle.ht_rx.specs.InLanes.{jobs_behind, lane_labels}
+use Rattle.ht_rx.proofs.Runs.{run_more, run_none}
+use Rattle.ht_rx.proofs.in_lanes.push_run.Goals as goal
+
+pub loop-k-init : goal.loop-k-init
+loop-k-init g c =
+    let first = c.args.first in
+    let none : first - first ≡ 0 = omega arith in
+    let items = c.args.labels.now.items in
+    record {
+      few = omega arith;
+      put = sym (ap (λ (n : ℕ). items ++ lane_labels c.args.lanes.now first n) none ∙ append-nil items);
+      is = run_none c.args.head.now c.args.lanes.now (g.B.Jobs.jobs c.args.block.now) (c.args.at + first) first
+          (place_by label_plan c.args.head.now c.place_at-start.result.symbol c.in-Data.m) c.args.lanes.now.streams (first - first) none;
+    }
+
+pub loop-k-preserved : goal.loop-k-preserved
+loop-k-preserved g c = ?
+
+pub returns-clause-is : goal.returns-clause-is
+returns-clause-is g c =
+    let all = c.loop-k-test.false in
+    let most = c.loop-k.auto.k-end (omega (arith, c.requires.first)) in
+    let last : c.loop-k.k ≡ 8 = omega (arith, all, most) in
+    let place = c.place-place.ensures.value in
+    let run = c.loop-k.invariant.is in
+    let jobs = g.B.Jobs.jobs c.args.block.now in
+    let lanes = c.args.lanes.now in
+    let first = c.args.first in
+    subst (λ (p : ℕ). IsTally label_plan c.args.head.now (jobs_behind jobs (c.args.at + first) (8 - first)) (8 - first) c.loop-k.distance 0
+    (range_with_len p ((8 - first) * lanes.streams)) (lane_labels lanes first (8 - first))) (sym place)
+    (subst (λ (k : ℕ). IsTally label_plan c.args.head.now (jobs_behind jobs (c.args.at + first) (k - first)) (k - first) c.loop-k.distance 0
+    (range_with_len (place_by label_plan c.args.head.now c.place_at-start.result.symbol c.in-Data.m) ((k - first) * lanes.streams))
+    (lane_labels lanes first (k - first))) last run)
+
+pub overflow_add-distance : goal.overflow_add-distance
+overflow_add-distance g c =
+    let few = c.loop-k.invariant.few in
+    let here = c.distance_in-distance.ensures.few in
+    let within = c.loop-k-test.true in
+    omega (arith, few, here, within)
