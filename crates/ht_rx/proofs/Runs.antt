@@ -26,6 +26,14 @@ use Rattle.ht_rounding.specs.declared.eight.Labelled.{Labelled}
 use Rattle.ht_rx.specs.InLanes.{HasFirst, IsLabelledAt, jobs_behind, lane_labels}
 use Rattle.ht_rx.proofs.Eights.{as_many}
 
+-- the labels of one more lane
+pub labels_more : (lanes : Labelled) (first c k : ℕ) → k ≡ first + c → lane_labels lanes first (c + 1) ≡ lane_labels lanes first c ++ labels_in lanes k
+labels_more lanes first c k is =
+    ap (λ (l : List ℕ). flat_map (labels_in lanes) l) (range_append first c 1)
+    ∙ (flat_map-append (labels_in lanes) (range_with_len first c) (range_with_len (first + c) 1)
+    ∙ (ap (λ (l : List ℕ). lane_labels lanes first c ++ l) (append-nil (labels_in lanes (first + c)))
+    ∙ ap (λ (j : ℕ). lane_labels lanes first c ++ labels_in lanes j) (sym is)))
+
 module _ (head : FrameHead) where
   sums_append : (p : JobView → Bool) (xs ys : List JobView) → distances (filter p (xs ++ ys)) ≡ distances (filter p xs) + distances (filter p ys)
   sums_append p xs ys =
@@ -156,13 +164,6 @@ module _ (head : FrameHead) where
           take_more (drop n jobs) c no_job inside
           ∙ (ap (λ (j : JobView). take c (drop n jobs) ++ j ∷ []) (get_or-drop n jobs c no_job)
           ∙ ap (λ (q : ℕ). take c (drop n jobs) ++ get_or jobs q no_job ∷ []) (sym is))
-
-      labels_more : (lanes : Labelled) (first c k : ℕ) → k ≡ first + c → lane_labels lanes first (c + 1) ≡ lane_labels lanes first c ++ labels_in lanes k
-      labels_more lanes first c k is =
-          ap (λ (l : List ℕ). flat_map (labels_in lanes) l) (range_append first c 1)
-          ∙ (flat_map-append (labels_in lanes) (range_with_len first c) (range_with_len (first + c) 1)
-          ∙ (ap (λ (l : List ℕ). lane_labels lanes first c ++ l) (append-nil (labels_in lanes (first + c)))
-          ∙ ap (λ (j : ℕ). lane_labels lanes first c ++ labels_in lanes j) (sym is)))
 
 -- a run of jobs behind the first ones of a block
 pub run_added : (jobs : List JobView) (n r : ℕ) (head own : FrameHead) (c d e p c' d' : ℕ) (ps ps' rs ls ls' ks : List ℕ) → c' ≡ c + r → d' ≡ d + e
