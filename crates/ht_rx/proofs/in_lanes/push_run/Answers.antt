@@ -48,8 +48,9 @@ loop-k-preserved g c =
     let pushed = c.in_ok-push_lane.ensures in
     let items = c.args.labels.now.items in
     let put : c.push_lane.new.labels.items ≡ items ++ lane_labels lanes first (so_far + 1) =
-    pushed ∙ (ap (λ (x : List ℕ). x ++ labels_in lanes l.k) l.invariant.put
-    ∙ (append_assoc items (lane_labels lanes first so_far) (labels_in lanes l.k) ∙ ap (λ (x : List ℕ). items ++ x) (sym labels))) in
+    pushed ∙ (ap (λ (n : ℕ). l.labels.items ++ labels_in lanes n) c.from-in-loop-k.ensures
+    ∙ (ap (λ (x : List ℕ). x ++ labels_in lanes l.k) l.invariant.put
+    ∙ (append_assoc items (lane_labels lanes first so_far) (labels_in lanes l.k) ∙ ap (λ (x : List ℕ). items ++ x) (sym labels)))) in
     let run = run_more head lanes jobs (c.args.at + first) first so_far l.k (c.args.at + l.k) symbol m l.distance e c.place_at.result
     c.requires.streams c.requires.most lane index inside c.distance_in-distance.ensures.value (omega (arith, few)) c.if-not-is_sure.ensures
     c.if-not-is_at.ensures.symbol (c.if-not-is_at.ensures.carrier ∙ ap (λ (n : ℕ). Data n) carrier) c.place_at.ensures
