@@ -162,19 +162,38 @@ fn push_run<B: Jobs>(
 {
     let start = block.place_at(at + first);
     let Carrier::Data(m) = HardLabels::carries(head, start.carrier) else {
-        return Ok(Run { place: 0, jobs: 0, distance: 0 });
+        return Ok(Run {
+            place: 0,
+            jobs: 0,
+            distance: 0,
+        });
     };
     let place = HardLabels::place(head, start.symbol, m);
     let mut distance = 0;
     for k in first..8 {
         let jobs = k - first;
-        if !is_sure(lanes, k) || !is_at(head, block.place_at(at + k), start.symbol, u16::from(m) + jobs) {
-            return Ok(Run { place, jobs, distance });
+        if !is_sure(lanes, k)
+            || !is_at(
+                head,
+                block.place_at(at + k),
+                start.symbol,
+                u16::from(m) + jobs,
+            )
+        {
+            return Ok(Run {
+                place,
+                jobs,
+                distance,
+            });
         }
         push_lane(labels, lanes, usize::from(k))?;
         distance += distance_in(lanes, k);
     }
-    Ok(Run { place, jobs: 8 - first, distance })
+    Ok(Run {
+        place,
+        jobs: 8 - first,
+        distance,
+    })
 }
 
 // Adds the longest run of eight jobs of a block that begins in the lane `first`, and answers how many jobs it has: none where that
@@ -204,7 +223,10 @@ fn add_run<B: Jobs>(
     }
     let run = push_run(&mut tally.values, &tally.head, block, at, lanes, first)?;
     if run.jobs > 0 {
-        tally.places.add(run.place, usize::from(run.jobs) * usize::from(lanes.streams))?;
+        tally.places.add(
+            run.place,
+            usize::from(run.jobs) * usize::from(lanes.streams),
+        )?;
         tally.jobs += run.jobs;
         tally.data_sum += u128::from(run.distance);
     }
@@ -302,7 +324,10 @@ fn add_next<B: Jobs>(
         return Ok(Added { lanes: 1, distance });
     }
     let distance = u128::from(distance_in(lanes, k + jobs - 1));
-    Ok(Added { lanes: jobs, distance })
+    Ok(Added {
+        lanes: jobs,
+        distance,
+    })
 }
 
 // Adds the last jobs of eight, from the lane `first` on: those of a block from the one on that has `at` others before it. It
