@@ -11,13 +11,21 @@ use byteorder::{BigEndian, ByteOrder};
 use ht_rounding::{Parts, Samples};
 use std::simd::prelude::*;
 
-// The number at a place as a word.
+// The number at a place.
 #[inline(always)]
-fn word(octets: &[u8], at: usize) -> u32
+fn number(octets: &[u8], at: usize) -> i32
     requires { at + 4 ≤ length octets.now }
-    ensures { IsWord result (cast_signed w32 (big_number 4 (drop at octets.now))) }
+    ensures { result ≡ cast_signed w32 (big_number 4 (drop at octets.now)) }
 {
-    BigEndian::read_i32(&octets[at..]).cast_unsigned()
+    BigEndian::read_i32(&octets[at..])
+}
+
+// A number with a sign as a word.
+#[inline(always)]
+fn word(number: i32) -> u32
+    ensures { IsWord result number }
+{
+    number.cast_unsigned()
 }
 
 // Eight numbers from a place on, each so many octets behind the one before it.
@@ -29,7 +37,7 @@ fn words(octets: &[u8], at: usize, stride: usize) -> u32x8
 {
     let mut lanes = [0u32; 8];
     for k in 0..8 {
-        lanes[k] = word(octets, at + k * stride);
+        lanes[k] = word(number(octets, at + k * stride));
     }
     u32x8::from_array(lanes)
 }
