@@ -1,16 +1,16 @@
 -- Eight subcarriers of a symbol in lanes.
-use Rattle.std.proofs.Common.{◌≡◌, ℕ, ℤ, zero, suc, ◌+◌, ◌-◌, ◌*◌, ◌^◌, ◌<◌, ◌≤◌, pos, Bool, true, false, if◌then◌else◌, List, [], ◌∷◌, ◌++◌, length, map, drop, take, get_or, set, slice_index}
+use Rattle.std.proofs.Common.{◌≡◌, ℕ, ℤ, pos, zero, suc, ◌+◌, ◌-◌, ◌*◌, ◌<◌, ◌≤◌, Bool, true, false, if◌then◌else◌, List, [], ◌∷◌, ◌++◌, length, map}
+use Rattle.std.proofs.Common.{drop, take, get_or, set, slice_index}
 use Rattle.std.proofs.Common.{arith, refl, ap, subst, sym, inl, inr, ◌∙◌, slice_index_or, replicate}
 use Rattle.std.specs.Int.{cast_signed, w32}
 use Rattle.std.specs.List.{All, range_with_len}
-use Rattle.std.specs.Prelude.{Option, Some, IfSome, slice_get, unwrap_or}
 use Rattle.std.specs.Ordering.{int_eq}
 use Rattle.std.proofs.lemmas.Bool.{cases_lt}
 use Rattle.std.proofs.lemmas.List.{get_or-set_same, get_or-set_other, length-set, length-map, map-append, take_more}
 use Rattle.byteorder.specs.Endian.{big_number}
 use Rattle.ht_metric.specs.Arrays.{legs, legs-rows_of}
 use Rattle.ht_metric.specs.Jobs.{JobView}
-use Rattle.ht_metric.specs.Rows.{Leg, Row, no_row, rows_of}
+use Rattle.ht_metric.specs.Rows.{Leg, no_row, rows_of}
 use Rattle.ht_metric.specs.declared.sample.Sample.{Sample}
 use Rattle.ht_pam.specs.declared.axes.Axes.{Axes}
 use Rattle.ht_pam.specs.declared.point.Point.{Point}
@@ -20,11 +20,10 @@ use Rattle.ht_rate.specs.Rates.{streams_of}
 use Rattle.ht_rate.specs.declared.kinds.Carrier.{Carrier}
 use Rattle.ht_rate.specs.declared.kinds.Carrier.TheVariants.{Data, Pilot}
 use Rattle.ht_rate.specs.declared.rates.Rate.{Rate}
-use Rattle.ht_rounding.specs.Columns.{AreColumns, HasSample, HasSamples, IsLike, IsLikePlain}
+use Rattle.ht_rounding.specs.Columns.{AreColumns, HasSample, HasSamples, IsLikePlain}
 use Rattle.ht_rounding.specs.InLanes.{axes_of}
 use Rattle.ht_rounding.specs.Labels.{IsLabelled}
 use Rattle.ht_rounding.specs.Loading.{IsWord, no_job}
-use Rattle.ht_rounding.specs.Proposals.{full, size_of}
 use Rattle.ht_rounding.specs.declared.columns.Columns.{Columns}
 use Rattle.ht_rounding.specs.declared.eight.Labelled.{Labelled}
 use Rattle.ht_rounding.specs.declared.levels.Levels.{Levels}

@@ -1,11 +1,11 @@
 -- Channels in columns, and eight of them in lanes.
-use Rattle.std.proofs.Common.{◌≡◌, ℕ, zero, suc, ◌+◌, ◌-◌, ◌^◌, ◌*◌, ◌<◌, ◌≤◌, List, [], ◌∷◌, ◌++◌, length, slice_index, slice_index_or}
+use Rattle.std.proofs.Common.{◌≡◌, ℕ, zero, suc, ◌+◌, ◌-◌, ◌^◌, ◌<◌, ◌≤◌, List, [], ◌∷◌, ◌++◌, length, slice_index, slice_index_or}
 use Rattle.std.proofs.Common.{arith, refl, ap, subst, sym, inl, inr, ◌∙◌}
 use Rattle.std.proofs.lemmas.Bool.{cases_lt}
 use Rattle.std.proofs.lemmas.List.{get_or-append_right, get_or_append_left, length-append, length-map}
 use Rattle.ht_metric.specs.declared.tap.Tap.{Tap}
 use Rattle.ht_metric.specs.Arrays.{legs}
-use Rattle.ht_metric.specs.Jobs.{JobView, IsJob}
+use Rattle.ht_metric.specs.Jobs.{JobView}
 use Rattle.ht_metric.specs.Rows.{Leg, Row, no_leg, no_row, no_tap}
 use Rattle.ht_pam.specs.Grids.{IsGrid}
 use Rattle.ht_pam.specs.declared.axes.Axes.{Axes}
@@ -13,16 +13,16 @@ use Rattle.ht_rounding.specs.declared.columns.Columns.{Columns}
 use Rattle.ht_rounding.specs.declared.columns.EntryColumns.{EntryColumns}
 use Rattle.ht_rounding.specs.declared.columns.RowColumns.{RowColumns}
 use Rattle.ht_rounding.specs.declared.levels.Levels.{Levels}
-use Rattle.ht_rounding.specs.declared.loading.Part.TheVariants.{Diagonal, EntryRe, EntryIm}
+use Rattle.ht_rounding.specs.declared.loading.Part.TheVariants.{EntryRe, EntryIm}
 use Rattle.ht_rounding.specs.declared.rows.Parts.{Parts}
 use Rattle.ht_rounding.specs.declared.streams.Channel.{Channel}
 use Rattle.ht_rounding.specs.declared.streams.RowLanes.{RowLanes}
 use Rattle.ht_rounding.specs.declared.streams.Samples.{Samples}
-use Rattle.ht_rounding.specs.Columns.{AreColumns, AreEntries, AreRows, ArePlain, EntriesReach, HasEach, HasLeg, HasLegs, HasSample, HasSamples, IsLike, IsLikePlain, Reaches}
-use Rattle.ht_rounding.specs.Columns.{RowReaches}
+use Rattle.ht_rounding.specs.Columns.{AreColumns, AreEntries, AreRows, ArePlain, EntriesReach, HasEach}
+use Rattle.ht_rounding.specs.Columns.{HasLeg, HasLegs, HasSample, HasSamples, IsLike, IsLikePlain, Reaches, RowReaches}
 use Rattle.ht_rounding.specs.InLanes.{IsInLane}
 use Rattle.ht_rounding.specs.Labels.{i_levels, q_levels}
-use Rattle.ht_rounding.specs.Loading.{HaveSmall, IsLoaded, IsPartOf, IsPlain, IsRowOf, IsShort, no_job}
+use Rattle.ht_rounding.specs.Loading.{IsLoaded, IsPartOf, IsPlain, IsRowOf, IsShort, no_job}
 use Rattle.ht_rounding.proofs.Answered.{plain-in-lane}
 use Rattle.ht_rounding.proofs.Loaded.{row-loaded, rows-loaded}
 

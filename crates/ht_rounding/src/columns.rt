@@ -3,7 +3,8 @@ ghost use Rattle.std.specs.Prelude.{◌≡◌, ◌+◌, ◌<◌, ◌≤◌, ◌+
 ghost use Rattle.ht_map.specs.Gray.{label_of};
 ghost use Rattle.ht_metric.specs.Jobs.{JobView};
 ghost use Rattle.ht_rounding.specs.declared.loading.Part.TheVariants.{Diagonal, EntryRe, EntryIm};
-ghost use Rattle.ht_rounding.specs.Columns.{AreColumns, AreEntries, ArePlain, AreRows, EntriesReach, HasLeg, HasLegs, HasSamples, IsColumn, IsLikePlain, Reaches, RowReaches};
+ghost use Rattle.ht_rounding.specs.Columns.{AreColumns, AreEntries, AreRows, EntriesReach, HasLeg, HasLegs, HasSamples, IsColumn};
+ghost use Rattle.ht_rounding.specs.Columns.{IsLikePlain, Reaches, RowReaches};
 ghost use Rattle.ht_rounding.specs.InLanes.{IsSmall};
 ghost use Rattle.ht_rounding.specs.Labels.{HasJob, IsLabelled, i_levels, q_levels};
 ghost use Rattle.ht_rounding.specs.Loading.{no_job};

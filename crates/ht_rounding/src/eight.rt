@@ -279,8 +279,9 @@ pub(crate) fn unsure(streams: u8) -> Labelled
     }
 }
 
-/// The same of eight jobs of any kind: lanes of other numbers of streams or constellations than those of the first job and
-/// this modulation aren't sure.
+/// The labels of the first nearest vectors of eight jobs of any kind, and their squared distances: lane k has those of job k.
+/// None is sure where the jobs don't all have the same number of streams; else the sure ones are among those whose jobs have all
+/// points of this modulation on each stream, and diagonals below 2^14.
 pub fn label_eight(modulation: Modulation, jobs: &[Job]) -> Labelled
     requires jobs { length jobs.now ≡ 8 }
     ensures some { 1 ≤ result.streams }
