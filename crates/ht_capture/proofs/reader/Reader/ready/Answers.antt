@@ -4,7 +4,7 @@ use Rattle.ht_capture.proofs.reader.Reader.ready.Goals as goal
 pub returns-in_default : goal.returns-in_default
 returns-in_default g c = record {
   told = search rules;
-  again = λ answer e. (refl, (refl, refl));
+  again = λ answer e. (refl, refl, refl);
   going = refl;
   stopped = tt;
   memory = tt;
