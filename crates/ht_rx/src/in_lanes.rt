@@ -11,11 +11,12 @@ ghost use Rattle.ht_rx.specs.InLanes.{AreLabelledFrom, HasFirst, jobs_behind, la
 
 use crate::hard_labels::{HardLabels, push_labels};
 use ht_capture::FrameHead;
+use ht_capture_blocks::InLanes;
 use ht_feed::{Gate, InFrame, Jobs, OpenGate, Work, is_hard};
 use ht_frames::{Kind, Tally, run_gated, tally_of};
 use ht_metric::{Found, Job, Place};
 use ht_rate::{Carrier, Modulation};
-use ht_rounding::{Labelled, find_only, label_eight};
+use ht_rounding::{Labelled, find_only};
 use std::alloc::{AllocError, Global};
 
 /// Makes the tally of any block that knows its frame. Where the gate is open and the frame has several spatial streams, jobs are
@@ -28,7 +29,7 @@ pub struct LaneWork<'g, G> {
     pub gate: &'g G,
 }
 
-impl<'g, B: InFrame<Head = FrameHead>, G: Gate> Work<B> for LaneWork<'g, G> {
+impl<'g, B: InFrame<Head = FrameHead> + InLanes, G: Gate> Work<B> for LaneWork<'g, G> {
     type Answer = Tally<HardLabels>;
 
     fn answer_to(&self, block: &B) -> Result<Tally<HardLabels>, AllocError> {
@@ -76,24 +77,13 @@ fn push_lane(labels: &mut Vec<u8>, lanes: &Labelled, k: usize) -> Result<(), All
 
 // The labels of eight jobs of a block, from the one on that has `at` others before it, in the lanes that are sure.
 #[inline(always)]
-fn lanes_from<B: Jobs>(modulation: Modulation, block: &B, at: u16) -> Labelled
+fn lanes_from<B: InLanes>(modulation: Modulation, block: &B, at: u16) -> Labelled
     requires within { at + 8 ≤ length (B.jobs block.now) }
-    requires few { length (B.jobs block.now) < 2 ^ 16 }
     ensures some { 1 ≤ result.streams }
     ensures most { result.streams ≤ 4 }
     ensures labels { AreLabelledFrom (label_at modulation) (B.jobs block.now) at result }
 {
-    let jobs = [
-        block.job(at),
-        block.job(at + 1),
-        block.job(at + 2),
-        block.job(at + 3),
-        block.job(at + 4),
-        block.job(at + 5),
-        block.job(at + 6),
-        block.job(at + 7),
-    ];
-    label_eight(modulation, &jobs)
+    block.labels(modulation, at)
 }
 
 // A run of jobs on data subcarriers that follow one another: the place in the frame of its first label, the number of its jobs,
@@ -332,7 +322,7 @@ fn add_next<B: Jobs>(
 
 // Adds the last jobs of eight, from the lane `first` on: those of a block from the one on that has `at` others before it. It
 // answers the distance of the last one.
-fn add_lanes<B: Jobs>(
+fn add_lanes<B: InLanes>(
     tally: &mut Tally<HardLabels>,
     block: &B,
     at: u16,
@@ -378,7 +368,7 @@ fn add_each<B: Jobs>(
 
 // Adds the jobs of a block behind its eights, the last of which has this distance, and answers that of the last job. Where the
 // block has eight jobs, the last eight are taken once more, of which the first ones were added before.
-fn add_rest<B: Jobs>(
+fn add_rest<B: InLanes>(
     tally: &mut Tally<HardLabels>,
     block: &B,
     size: u16,
@@ -403,7 +393,7 @@ fn add_rest<B: Jobs>(
 // What the jobs of a block come to, which are of a frame with this head. The only error is lack of memory. It stays out of line,
 // since what it needs would cost frames of one spatial stream, which never come here.
 #[inline(never)]
-fn tally_in_lanes<B: Jobs>(
+fn tally_in_lanes<B: InLanes>(
     alloc: Global,
     head: &FrameHead,
     block: &B,
