@@ -1,6 +1,6 @@
 -- Runs of jobs on data subcarriers that follow one another.
-use Rattle.std.proofs.Common.{◌≡◌, ℕ, ◌+◌, ◌-◌, ◌*◌, ◌^◌, ◌<◌, ◌≤◌, List, [], ◌∷◌, ◌++◌, Option, Some, IfSome, Bool, true, not, if◌then◌else◌, drop, length, take}
-use Rattle.std.proofs.Common.{map, get_or, slice_get, slice_index, length-append, arith, ap, refl, subst, sym, ◌∙◌}
+use Rattle.std.proofs.Common.{◌≡◌, ℕ, ◌+◌, ◌-◌, ◌*◌, ◌^◌, ◌<◌, ◌≤◌, List, [], ◌∷◌, ◌++◌, Option, Some, IfSome, Bool, true, not}
+use Rattle.std.proofs.Common.{if◌then◌else◌, drop, length, take, get_or, slice_get, slice_index, length-append, arith, ap, refl, subst, sym, ◌∙◌}
 use Rattle.std.specs.List.{filter, flat_map, range_with_len}
 use Rattle.std.proofs.Math.Seq.{take-add}
 use Rattle.std.proofs.lemmas.Grind.{flat_map-append}
@@ -115,7 +115,8 @@ module _ (head : FrameHead) where
       → 0 < slice_index lanes.sure k → place.symbol ≡ symbol → label_plan.kind head place.carrier ≡ Data (m + c)
       → IfSome (slice_get jobs i) (λ job. job.place ≡ place)
       → IsLabelledAt (label_at (modulation_of head.rate)) jobs i lanes k
-      → IsTally label_plan head (jobs_behind jobs n c) c d 0 (range_with_len (place_by label_plan head symbol m) (c * lanes.streams)) (lane_labels lanes first c)
+      → IsTally label_plan head (jobs_behind jobs n c) c d 0 (range_with_len (place_by label_plan head symbol m) (c * lanes.streams))
+      (lane_labels lanes first c)
       → IsTally label_plan head (jobs_behind jobs n (c + 1)) (c + 1) (d + e) 0 (range_with_len (place_by label_plan head symbol m) ((c + 1) * lanes.streams))
       (lane_labels lanes first (c + 1))
   run_more lanes jobs n first c k i symbol m d e place streams few lane index lt has small sure on kind at says is =
