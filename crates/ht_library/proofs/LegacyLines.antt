@@ -102,7 +102,8 @@ job_small s carrier small typed =
 jobs_small : (s : SymbolView) → AllByRecursion IsDiagonal s.diagonals → AreSamples s.samples → AllByRecursion IsSmall (jobs_of s)
 unfolding jobs_between
 jobs_small s small typed =
-    all_map IsSmall (job_of s) (range_with_len 0 52) (all_range (λ carrier. IsSmall (job_of s carrier)) 0 52 (λ carrier within. job_small s carrier small typed))
+    all_map IsSmall (job_of s) (range_with_len 0 52)
+    (all_range (λ carrier. IsSmall (job_of s carrier)) 0 52 (λ carrier within. job_small s carrier small typed))
 
 -- heads and jobs: the frames have numbers of 16 bits and at most 4095 octets, and the jobs are near
 abbrev AreSmall : List (Item LegacyFrameHead) → Type 0
