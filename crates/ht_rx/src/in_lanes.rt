@@ -19,8 +19,8 @@ use ht_rate::{Carrier, Modulation};
 use ht_rounding::{Labelled, find_only};
 use std::alloc::{AllocError, Global};
 
-/// Makes the tally of any block that knows its frame. Where the gate is open and the frame has several spatial streams, jobs are
-/// found eight at a time, in lanes (crate `ht_rounding`); else each by itself, between the two calls of the gate.
+/// Makes the tally of any block that knows its frame. Where the gate is open, jobs are found eight at a time, in lanes (crate
+/// `ht_rounding`); else each by itself, between the two calls of the gate.
 #[derive(Drop)]
 pub struct LaneWork<'g, G> {
     /// Where the memory for labels comes from.
@@ -34,7 +34,7 @@ impl<'g, B: InFrame<Head = FrameHead> + InLanes, G: Gate> Work<B> for LaneWork<'
 
     fn answer_to(&self, block: &B) -> Result<Tally<HardLabels>, AllocError> {
         let head = block.head();
-        if self.gate.is_open() && head.rate.streams() > 1 {
+        if self.gate.is_open() {
             return tally_in_lanes(self.alloc, head, block);
         }
         tally_of::<HardLabels, B, G>(self.alloc, head, block, self.gate)
@@ -391,7 +391,7 @@ fn add_rest<B: InLanes>(
 }
 
 // What the jobs of a block come to, which are of a frame with this head. The only error is lack of memory. It stays out of line,
-// since what it needs would cost frames of one spatial stream, which never come here.
+// so that what it needs costs nothing where jobs are found by themselves.
 #[inline(never)]
 fn tally_in_lanes<B: InLanes>(
     alloc: Global,
