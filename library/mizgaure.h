@@ -38,7 +38,7 @@ extern "C" {
 #endif
 
 /* The version of these calls, which mizgaure_version() answers too. Until it is 1000 a call may change from version to version. */
-#define MIZGAURE_VERSION 3
+#define MIZGAURE_VERSION 4
 
 enum mizgaure_fault {
     MIZGAURE_DONE = 0,
@@ -243,16 +243,20 @@ uint32_t mizgaure_lrx(const uint8_t *capture, size_t n, uint8_t *text, size_t te
 uint32_t mizgaure_many(const uint8_t *bundle, size_t n, uint8_t *text, size_t text_n, uint64_t *size, mizgaure_refusal *refusal);
 
 /* A size of `text` with which these calls never answer NO_ROOM for the capture, so that none is made twice. detect: 6 * n. rx and soft:
- * 32 + n / 2, rounded down, but at a capture of version 2 it is 32 and the less of 17 * n and 131177 for each frame. Only the version and
- * the number of frames are read, so any octets may be given. A capture has less than 2^59 octets. */
+ * 32 + n / 2, rounded down, but at a capture of version 2 it is 32 and the less of 17 * n and 131177 for each frame. lrx: 32 + n / 2.
+ * many: 17 * n, which suffices where each capture of the bundle is whole. Only the version and the number of frames of a capture are
+ * read, so any octets may be given. UINT64_MAX where the size has more than 64 bits, and of rx and soft from 2^59 octets on. */
 uint64_t mizgaure_detect_size(const uint8_t *capture, size_t n);
 uint64_t mizgaure_rx_size(const uint8_t *capture, size_t n);
 uint64_t mizgaure_soft_size(const uint8_t *capture, size_t n);
+uint64_t mizgaure_lrx_size(const uint8_t *capture, size_t n);
+uint64_t mizgaure_many_size(const uint8_t *bundle, size_t n);
 
 /* The file of certificates (HTCT) of the command certify for a capture, and the text of the command check for such a file. As
- * above. */
+ * above. With a text of mizgaure_check_size octets, 16 + 2 * n, check never answers NO_ROOM. */
 uint32_t mizgaure_certify(const uint8_t *capture, size_t n, uint8_t *file, size_t file_n, uint64_t *size, mizgaure_refusal *refusal);
 uint32_t mizgaure_check(const uint8_t *file, size_t n, uint8_t *text, size_t text_n, uint64_t *size, mizgaure_refusal *refusal);
+uint64_t mizgaure_check_size(const uint8_t *file, size_t n);
 
 /* The file of symbols (HTSY) of the command tx for a file of frames (HTTX), and the capture of version 2 of the command upgrade for a
  * capture (HTCP) of either version. As above. */

@@ -167,6 +167,18 @@ static void parser(void) {
     EXPECT(mizgaure_lay(0, 13, first, N, first, 0, bits, N) == MIZGAURE_DONE);
     for (int k = 0; k < N; k++) EXPECT(bits[k / 3 % 2 * 312 + k / 6 * 3 + k % 3] == first[k]);
     EXPECT(mizgaure_gather(0, 13, bits, N, back, N, back, 0) == MIZGAURE_DONE && !memcmp(back, first, N));
+    /* Four streams at 40 MHz with two encoders: these take turns, each with 3 bits for each stream. */
+    enum { ALL = 2592, HALF = ALL / 2, STREAM = ALL / 4 };
+    static bool halves[2][HALF], laid[ALL], again[2][HALF];
+    for (int k = 0; k < ALL; k++) halves[k / HALF][k % HALF] = k * k % 11 < 4;
+    EXPECT(mizgaure_lay(1, 31, halves[0], HALF, halves[1], HALF, laid, ALL) == MIZGAURE_DONE);
+    bool in_turn = true;
+    for (int k = 0; k < ALL; k++) in_turn = in_turn && laid[k / 3 % 4 * STREAM + k / 12 * 3 + k % 3] == halves[k / 12 % 2][k / 24 * 12 + k % 12];
+    EXPECT(in_turn);
+    EXPECT(mizgaure_gather(1, 31, laid, ALL, again[0], HALF, again[1], HALF) == MIZGAURE_DONE && !memcmp(again, halves, ALL));
+    memset(again, 1, ALL);
+    EXPECT(mizgaure_gather(1, 31, laid, ALL, again[0], HALF, again[1], HALF - 1) == MIZGAURE_BAD_LENGTH && kept(again, ALL, 1));
+    EXPECT(mizgaure_lay(1, 31, halves[0], HALF, halves[1], 0, again[0], ALL) == MIZGAURE_BAD_LENGTH && kept(again, ALL, 1));
     memset(back, 1, N);
     EXPECT(mizgaure_lay(2, 13, first, N, first, 0, back, N) == MIZGAURE_NO_RATE && mizgaure_lay(0, 13, first, N, first, 1, back, N) == MIZGAURE_BAD_LENGTH);
     EXPECT(mizgaure_gather(0, 13, bits, N - 1, back, N, back, 0) == MIZGAURE_BAD_LENGTH);
@@ -314,6 +326,11 @@ static void frames(void) {
     EXPECT(mizgaure_transmit(0, 1, 0, octets, OCTETS, points, SYMBOLS * CARRIERS) == MIZGAURE_NO_SEED);
     EXPECT(mizgaure_transmit(0, 1, 93, octets, 0, points, SYMBOLS * CARRIERS) == MIZGAURE_BAD_LENGTH);
     EXPECT(mizgaure_transmit(0, 1, 93, octets, OCTETS, points, CARRIERS) == MIZGAURE_BAD_LENGTH && kept(points, sizeof points, 0x55));
+    /* 65,536 octets are too many for a frame. */
+    static uint8_t many_octets[65536];
+    EXPECT(mizgaure_transmit(0, 1, 93, many_octets, 65536, points, CARRIERS) == MIZGAURE_BAD_LENGTH && kept(points, sizeof points, 0x55));
+    EXPECT(mizgaure_decode_frame(0, 1, 0, 0, labels, SYMBOLS * DATA, many_octets, 65536, &differences) == MIZGAURE_BAD_LENGTH && kept(many_octets, 65536, 0));
+    EXPECT(mizgaure_soft_frame(0, 1, 0, 0, weights, 0, back, 0, &cost) == MIZGAURE_BAD_LENGTH && differences == 77 && cost.low == 77);
 }
 
 typedef uint32_t texts(const uint8_t *, size_t, uint8_t *, size_t, uint64_t *, mizgaure_refusal *);
@@ -388,6 +405,36 @@ static void whole_inputs(void) {
     static const uint8_t bundle[12] = {'H', 'T', 'M', 'B', 1, 1, 0, 0, 0, 2, 'H', 'X'};
     const char *many = "capture 0\nrefused BadMagic at 1\n";
     EXPECT(mizgaure_many(bundle, 12, text, sizeof text, &size, &refusal) == MIZGAURE_DONE && size == strlen(many) && !memcmp(text, many, size));
+    /* The octet a5 in a frame of clause 18, through the channel without noise and back (docs/LEGACY.md). */
+    static const uint8_t legacy_frame[12] = {'L', 'G', 'T', 'X', 1, 0, 1, 0, 0, 1, 127, 0xa5};
+    static uint8_t legacy_capture[1024];
+    const char *heard = "frame 0 data 0 pilot 0 code 0 octets a5\nend 1 frames\n";
+    uint64_t legacy_n = 0;
+    EXPECT(mizgaure_legacy_pass(1, 0, legacy_frame, 12, legacy_capture, sizeof legacy_capture, &legacy_n, &refusal) == MIZGAURE_DONE && legacy_n == 946);
+    EXPECT(mizgaure_lrx_size(legacy_capture, legacy_n) == 32 + 473);
+    EXPECT(mizgaure_lrx(legacy_capture, legacy_n, text, mizgaure_lrx_size(legacy_capture, legacy_n), &size, &refusal) == MIZGAURE_DONE);
+    EXPECT(size == strlen(heard) && !memcmp(text, heard, size));
+    EXPECT(mizgaure_check_size(file, length) == 16 + 2 * length && mizgaure_check(file, length, text, 16 + 2 * length, &size, &refusal) == MIZGAURE_DONE);
+    static uint8_t two[16 + 2048];
+    const uint8_t head[10] = {'H', 'T', 'M', 'B', 1, 1, 0, 0, (uint8_t)(n / 256), (uint8_t)n};
+    memcpy(two, head, sizeof head), memcpy(two + sizeof head, capture, n);
+    EXPECT(mizgaure_many_size(two, 10 + n) == 17 * (10 + n));
+    EXPECT(mizgaure_many(two, 10 + n, text, sizeof text, &size, &refusal) == MIZGAURE_DONE && size == strlen("capture 0\n") + strlen(wanted));
+    /* Each output in an array that is an octet too short: its size is said, and nothing is written. */
+    const struct { texts *call; const uint8_t *input; size_t n; } outputs[] = {
+        {mizgaure_detect, capture, n}, {mizgaure_rx, capture, n}, {mizgaure_soft, capture, n}, {mizgaure_lrx, legacy_capture, legacy_n},
+        {mizgaure_certify, capture, n}, {mizgaure_check, file, length}, {mizgaure_many, two, 10 + n}, {mizgaure_tx, frame, 13}, {mizgaure_upgrade, capture, n},
+    };
+    static uint8_t room[65536];
+    for (size_t k = 0; k < sizeof outputs / sizeof *outputs; k++) {
+        uint64_t whole = 0;
+        EXPECT(outputs[k].call(outputs[k].input, outputs[k].n, room, sizeof room, &whole, &refusal) == MIZGAURE_DONE && whole > 0);
+        memset(room, 0x55, sizeof room), size = 77, refusal.offset = refusal.kind = 77;
+        EXPECT(outputs[k].call(outputs[k].input, outputs[k].n, room, whole - 1, &size, &refusal) == MIZGAURE_NO_ROOM && size == whole);
+        EXPECT(kept(room, sizeof room, 0x55) && refusal.offset == 77 && refusal.kind == 77);
+    }
+    EXPECT(mizgaure_pass(1, 0, symbols, 7, room, 6, &size, &refusal) == MIZGAURE_NO_ROOM && size == 7);
+    EXPECT(mizgaure_legacy_pass(1, 0, legacy_frame, 12, room, 945, &size, &refusal) == MIZGAURE_NO_ROOM && size == 946 && kept(room, sizeof room, 0x55));
 }
 
 int main(void) {

@@ -104,6 +104,25 @@ def test_texts_are_those_of_the_vectors(command, some):
             assert said == text.read_bytes(), text.name
 
 
+def test_sizes_suffice_for_clause_18_bundles_and_checks():
+    captures = [path.read_bytes() for path in sorted((VECTORS / "legacy").glob("*.lgcp"))]
+    assert captures
+    for capture in captures:
+        try:
+            assert len(library.lrx(capture)) <= library.lrx_size(capture)
+        except library.Refused:
+            pass
+    capture = (TOP / "examples" / "z.htcp").read_bytes()
+    bundle = b"HTMB\x01\x02" + 2 * (len(capture).to_bytes(4, "big") + capture)
+    assert len(library.many(bundle, out=np.empty(library.many_size(bundle), np.uint8))) <= 2 * (library.rx_size(capture) + 12)
+    file = library.certify(capture)
+    text = library.check(file, out=np.empty(library.check_size(file), np.uint8))
+    assert bytes(text) == library.check(file) and len(text) <= library.check_size(file)
+    spoiled = bytearray(file)
+    spoiled[13 + 2 + 2 + 8 + 2 + 15] ^= 1  # the claimed distance of the first record
+    assert library.check(spoiled).startswith(b"job 0 no WrongDistance at ")
+
+
 @pytest.mark.parametrize("rate, n", [(Rate(20, 13), 1), (Rate(40, 31), 2)])
 def test_bits_that_are_laid_are_gathered(rate, n):
     assert rate.encoders == n
@@ -145,6 +164,7 @@ def test_a_size_is_what_the_header_says():
     assert library.rx_size(newer) == library.soft_size(newer) == 32 + 17 * 1075
     assert library.rx_size(newer + bytes(10000)) == 32 + 131177
     assert library.rx_size(b"") == 32 and library.rx_size(b"HTCP\x02\x01") == 32 + 17 * 6
+    assert library.lrx_size(bytes(101)) == 32 + 50 and library.many_size(bytes(101)) == 17 * 101 and library.check_size(bytes(101)) == 218
 
 
 def test_certificates_and_the_channel_are_those_of_the_program():

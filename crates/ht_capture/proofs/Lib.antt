@@ -24,3 +24,4 @@ mod Erased
 pub mod Written
 pub mod Fronts
 pub mod Marks
+mod InLanes

@@ -13,3 +13,4 @@ pub mod Readers
 pub mod Parts
 pub mod Presents
 pub mod Blocks
+pub mod InColumns

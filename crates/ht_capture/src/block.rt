@@ -1,12 +1,16 @@
 //! Blocks of jobs.
-ghost use Rattle.std.specs.Prelude.{◌≡◌, ◌+◌, ◌<◌, ◌≤◌, ◌↔◌, Some, length, slice_get, IfOk, IfSome, IsTrue};
+ghost use Rattle.std.specs.Prelude.{◌≡◌, ◌+◌, ◌<◌, ◌≤◌, ◌↔◌, ℕ, Some, length, slice_get, slice_index, unwrap_or, IfOk, IfSome, IsTrue};
 ghost use Rattle.std.specs.Arc.{arc_value};
+ghost use Rattle.ht_map.specs.Gray.{label_of};
+ghost use Rattle.ht_rounding.specs.Labels.{IsLabelled};
 ghost use Rattle.ht_capture.specs.declared.places.Present.{Present as PresentValue};
 ghost use Rattle.ht_capture.specs.Parts.{job_in, jobs_of, part_of};
 
 use crate::items::FrameHead;
 use crate::shared_symbol::SharedSymbol;
 use ht_metric::{Job, Place};
+use ht_rate::Modulation;
+use ht_rounding::Labelled;
 use std::alloc::{AllocError, Global};
 use std::marker::Model;
 use std::sync::Arc;
@@ -103,6 +107,20 @@ impl SymbolBlock {
     {
         let (symbol, subcarrier) = self.subcarrier(at);
         symbol.job(subcarrier)
+    }
+
+    /// The labels of the first nearest vectors of eight jobs, from the one on that has `at` others before it, and their squared
+    /// distances, in the lanes that are sure. Where the frame's modulation is another one, none is.
+    #[inline]
+    pub fn labels(&self, modulation: Modulation, at: u16) -> Labelled
+        requires { at + 8 ≤ length (jobs_of self.now) }
+        ensures some { 1 ≤ result.streams }
+        ensures few { result.streams ≤ 4 }
+        ensures labels { (k : ℕ) → k < 8 → IfSome (slice_get (jobs_of self.now) (at + k))
+            (λ job. 0 < slice_index result.sure k → IsLabelled (λ p. unwrap_or (label_of modulation p) 0) result k job) }
+    {
+        let symbol: &SharedSymbol = &self.symbol;
+        symbol.labels(modulation, usize::from(self.first + at))
     }
 
     /// The same block, which shares the symbol. The only error is lack of memory.

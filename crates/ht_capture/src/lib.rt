@@ -27,6 +27,7 @@ mod frames;
 mod heads;
 mod items;
 mod jobs;
+mod lanes;
 pub mod laws;
 mod lent;
 pub mod numbers;

@@ -1,5 +1,7 @@
 //! Symbols whose jobs are shared.
-ghost use Rattle.std.specs.Prelude.{◌≡◌, ◌+◌, ◌*◌, ◌^◌, ◌<◌, ◌≤◌, ◌↔◌, length, get_or, IfOk, IsTrue};
+ghost use Rattle.std.specs.Prelude.{◌≡◌, ◌+◌, ◌*◌, ◌^◌, ◌<◌, ◌≤◌, ◌↔◌, ℕ, length, get_or, slice_index, unwrap_or, IfOk, IsTrue};
+ghost use Rattle.ht_map.specs.Gray.{label_of};
+ghost use Rattle.ht_rounding.specs.Labels.{IsLabelled};
 ghost use Rattle.ht_capture.specs.declared.places.Present.{Present as PresentValue};
 ghost use Rattle.ht_capture.specs.Frames.{carrier_octets};
 ghost use Rattle.ht_capture.specs.Parts.{IsSymbol, job_in, moved, part_of};
@@ -8,6 +10,8 @@ use crate::items::FrameHead;
 use crate::parts::width;
 use crate::shape::Shape;
 use ht_metric::{Job, Place};
+use ht_rate::Modulation;
+use ht_rounding::Labelled;
 use std::alloc::{AllocError, Global};
 use std::marker::Model;
 use std::sync::Arc;
@@ -137,6 +141,19 @@ impl SharedSymbol {
         let at = width(k, self.shape.head().rate.streams());
         self.shape
             .job(k, self.symbol, self.number + k as u64, &self.octets, at)
+    }
+
+    /// The labels of the jobs of eight subcarriers from one on, in the lanes that are sure.
+    #[inline]
+    pub fn labels(&self, modulation: Modulation, k: usize) -> Labelled
+        requires { k + 8 ≤ length self.now.present }
+        ensures some { 1 ≤ result.streams }
+        ensures few { result.streams ≤ 4 }
+        ensures labels { (j : ℕ) (d : PresentValue) → j < 8 → 0 < slice_index result.sure j
+            → IsLabelled (λ p. unwrap_or (label_of modulation p) 0) result j (job_in self.now (k + j) d) }
+    {
+        let at = width(k, self.shape.head().rate.streams());
+        self.shape.labels(modulation, k, &self.octets, at)
     }
 
     // The octets of the samples of a number of subcarriers from one on.

@@ -2,9 +2,12 @@
 ghost use Rattle.std.specs.Prelude.{◌≡◌, ◌↔◌, IfSome, IsTrue};
 ghost use Rattle.ht_capture.specs.Parts.{jobs_of};
 
+use crate::in_lanes::InLanes;
 use ht_capture::{FrameHead, SymbolBlock};
 use ht_feed::{InFrame, Jobs, Shared};
 use ht_metric::{Job, Place};
+use ht_rate::Modulation;
+use ht_rounding::Labelled;
 
 /// Some of the jobs of one symbol of a capture, in a handle of a few words: triangles and samples stay where the symbol
 /// lies.
@@ -45,6 +48,14 @@ impl InFrame for CaptureBlock {
         ensures { result.now ≡ self.now.block.head }
     {
         self.block.head()
+    }
+}
+
+impl InLanes for CaptureBlock {
+    /// The channels are loaded from the columns of the frame, and the samples straight from the octets of the symbol.
+    #[inline]
+    fn labels(&self, modulation: Modulation, at: u16) -> Labelled {
+        self.block.labels(modulation, at)
     }
 }
 

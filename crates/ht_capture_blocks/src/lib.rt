@@ -12,7 +12,9 @@
 #![tactic(auto)]
 
 mod block;
+mod in_lanes;
 mod reader;
 
 pub use block::CaptureBlock;
+pub use in_lanes::InLanes;
 pub use reader::CaptureReader;

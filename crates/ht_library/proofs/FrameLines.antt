@@ -113,7 +113,7 @@ jobs_few f small =
     omega (arith, is, most)
 
 -- the sum over the jobs that a test picks
-picked_small : (p : JobView → Bool) (jobs : List JobView) → AllByRecursion IsSmall jobs → length jobs ≤ 119574144 → distances (filter p jobs) ≤ 2 ^ 96
+pub picked_small : (p : JobView → Bool) (jobs : List JobView) → AllByRecursion IsSmall jobs → length jobs ≤ 119574144 → distances (filter p jobs) ≤ 2 ^ 96
 picked_small p jobs small few =
     let all : All IsSmall (filter p jobs) = All-filter p IsSmall jobs (All-from_recursion IsSmall jobs small) in
     let sum = sum_by-le (λ (job : JobView). (near job).distance) (2 ^ 66) (filter p jobs) all in
@@ -122,7 +122,7 @@ picked_small p jobs small few =
     omega (arith, sum, wide)
 
 -- the octets that a frame came to are as many as its head says
-has_octets : (o : Outcome) (count : ℕ) → ((octets : List ℕ) → o ≡ Octets octets → length octets ≡ count) → HasOctets (octets_in o) count
+pub has_octets : (o : Outcome) (count : ℕ) → ((octets : List ℕ) → o ≡ Octets octets → length octets ≡ count) → HasOctets (octets_in o) count
 has_octets (Octets found) count has octets is = let same : found ≡ octets = cc in ap length (sym same) ∙ has found refl
 has_octets SeedZero count has octets is = let never : ⊥ = cc in absurd never
 

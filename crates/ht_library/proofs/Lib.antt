@@ -1,10 +1,14 @@
+mod CheckLines
 mod Costs
 mod Eights
 mod FrameLines
 mod LegacyLengths
+mod LegacyLines
+mod LegacyRooms
 mod Lengths
 mod LineLengths
 mod Made
+mod MoreSuffices
 mod Rooms
 mod Shares
 mod SmallJobs

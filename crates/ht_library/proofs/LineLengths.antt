@@ -4,7 +4,8 @@ use Rattle.std.proofs.Common.{refl, arith, length-append, codes}
 use Rattle.std.specs.Fmt.{decimal, signed_decimal}
 use Rattle.std.specs.List.{AllByRecursion}
 use Rattle.std.proofs.lemmas.Fmt.{length-decimal-le_wide}
-use Rattle.ht_text.specs.Lines.{end_text, frame_text, hex, job_text, line_feed, outcome_text, soft_text, spaced, sums_text}
+use Rattle.ht_text.specs.Lines.{capture_text, checked_text, end_text, frame_text, hex, job_text, line_feed, no_text, outcome_text}
+use Rattle.ht_text.specs.Lines.{refused_text, soft_text, spaced, sums_text, yes_text}
 
 -- a text of at most this many octets
 record Short (most : ℕ) (text : List ℕ) : Type 0 where
@@ -17,7 +18,7 @@ short_text most text few = record { short = few }
 more : {m n : ℕ} {a b : List ℕ} → Short m a → Short n b → Short (m + n) (a ++ b)
 more {m} {n} {a} {b} first second = record { short = omega (arith, length-append a b, first.short, second.short) }
 
--- a number of up to 5, 3, 8, 20 and 29 digits
+-- a number of up to 5, 3, 8, 10, 12, 20 and 29 digits
 digits_5 : (n : ℕ) → n < 100000 → Short 5 (decimal n)
 digits_5 n small = short_text 5 (decimal n) (length-decimal-le_wide 5 n (omega arith) (omega (arith, small)) (omega (arith, small)))
 
@@ -26,6 +27,12 @@ digits_3 n small = short_text 3 (decimal n) (length-decimal-le_wide 3 n (omega a
 
 digits_8 : (n : ℕ) → n < 100000000 → Short 8 (decimal n)
 digits_8 n small = short_text 8 (decimal n) (length-decimal-le_wide 8 n (omega arith) (omega (arith, small)) (omega (arith, small)))
+
+digits_10 : (n : ℕ) → n < 10000000000 → Short 10 (decimal n)
+digits_10 n small = short_text 10 (decimal n) (length-decimal-le_wide 10 n (omega arith) (omega (arith, small)) (omega (arith, small)))
+
+digits_12 : (n : ℕ) → n < 1000000000000 → Short 12 (decimal n)
+digits_12 n small = short_text 12 (decimal n) (length-decimal-le_wide 12 n (omega arith) (omega (arith, small)) (omega (arith, small)))
 
 digits_20 : (n : ℕ) → n ≤ 2 ^ 66 → Short 20 (decimal n)
 digits_20 n small = short_text 20 (decimal n) (length-decimal-le_wide 20 n (omega arith) (omega (arith, small)) (omega (arith, small)))
@@ -107,4 +114,46 @@ unfolding end_text
 end-long frames few =
     let all : Short 17 (end_text frames) =
     more (more (more (short_text 4 (codes "end ") (omega arith)) (digits_5 frames (omega (arith, few)))) (short_text 7 (codes " frames") (omega arith))) feed in
+    all.short
+
+-- the line of a certificate that holds, and of one that doesn't
+pub yes-long : (number : ℕ) → number < 1000000000000 → length (yes_text number) ≤ 21
+unfolding yes_text
+yes-long number few =
+    let all : Short 21 (yes_text number) =
+    more (more (more (short_text 4 (codes "job ") (omega arith)) (digits_12 number few)) (short_text 4 (codes " yes") (omega arith))) feed in
+    all.short
+
+pub no-long : (number at : ℕ) (name : List ℕ) → number < 1000000000000 → length name ≤ 13 → at ≤ 2 ^ 66 → length (no_text number name at) ≤ 58
+unfolding no_text
+no-long number at name few wide low =
+    let first : Short 20 (codes "job " ++ decimal number ++ codes " no ") =
+    more (more (short_text 4 (codes "job ") (omega arith)) (digits_12 number few)) (short_text 4 (codes " no ") (omega arith)) in
+    let all : Short 58 (no_text number name at) =
+    more (more (more (more first (short_text 13 name wide)) (short_text 4 (codes " at ") (omega arith))) (digits_20 at low)) feed in
+    all.short
+
+-- the last line of a check
+pub checked-long : (jobs right : ℕ) → jobs < 1000000000000 → right < 1000000000000 → length (checked_text jobs right) ≤ 39
+unfolding checked_text
+checked-long jobs right few less =
+    let all : Short 39 (checked_text jobs right) =
+    more (more (more (more (short_text 4 (codes "end ") (omega arith)) (digits_12 jobs few)) (short_text 10 (codes " jobs yes ") (omega arith)))
+    (digits_12 right less)) feed in
+    all.short
+
+-- the line in front of the text of a capture among several
+pub capture-long : (number : ℕ) → number < 1000 → length (capture_text number) ≤ 12
+unfolding capture_text
+capture-long number few =
+    let all : Short 12 (capture_text number) = more (more (short_text 8 (codes "capture ") (omega arith)) (digits_3 number few)) feed in
+    all.short
+
+-- the line of a fault
+pub refused-long : (name : List ℕ) (offset : ℕ) → length name ≤ 13 → offset < 10000000000 → length (refused_text name offset) ≤ 36
+unfolding refused_text
+refused-long name offset wide low =
+    let all : Short 36 (refused_text name offset) =
+    more (more (more (more (short_text 8 (codes "refused ") (omega arith)) (short_text 13 name wide)) (short_text 4 (codes " at ") (omega arith)))
+    (digits_10 offset low)) feed in
     all.short

@@ -9,4 +9,5 @@ mod FoundLanes
 mod Loaded
 mod Answered
 mod Labelling
+mod InColumns
 mod OnlyLemmas

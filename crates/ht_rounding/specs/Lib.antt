@@ -4,4 +4,5 @@ pub mod RowSteps
 pub mod InLanes
 pub mod Loading
 pub mod Labels
+pub mod Columns
 pub mod Only

@@ -172,7 +172,7 @@ pub fn label_lanes(modulation: Modulation, streams: u8, eight: &Eight) -> Labell
 }
 
 // The levels of I and of Q.
-fn levels_by(modulation: Modulation) -> (Levels, Levels)
+pub(crate) fn levels_by(modulation: Modulation) -> (Levels, Levels)
     ensures i { result.0 ≡ i_levels modulation }
     ensures q { result.1 ≡ q_levels modulation }
 {
@@ -200,7 +200,7 @@ fn has_all(grid: &Grid, streams: u8, i: Ladder, q: Ladder) -> bool
 
 // 1 where a lane can answer a job whose constellations have all these levels, and 0 elsewhere.
 #[inline(always)]
-fn plainness(i: Levels, q: Levels, streams: u8, job: &Job) -> u32
+pub(crate) fn plainness(i: Levels, q: Levels, streams: u8, job: &Job) -> u32
     requires { streams ≡ length job.now.system }
     ensures { 0 < result → IsPlain i q streams job.now }
 {
@@ -263,7 +263,7 @@ fn gathered_by(i: Levels, q: Levels, streams: u8, jobs: &[Job]) -> Eight
 }
 
 // What lanes say where none is sure.
-fn unsure(streams: u8) -> Labelled
+pub(crate) fn unsure(streams: u8) -> Labelled
     ensures streams { result.streams ≡ streams }
     ensures sure { (k : ℕ) → k < 8 → slice_index result.sure k ≡ 0 }
 {
@@ -279,8 +279,9 @@ fn unsure(streams: u8) -> Labelled
     }
 }
 
-/// The same of eight jobs of any kind: lanes of other numbers of streams or constellations than those of the first job and
-/// this modulation aren't sure.
+/// The labels of the first nearest vectors of eight jobs of any kind, and their squared distances: lane k has those of job k.
+/// None is sure where the jobs don't all have the same number of streams; else the sure ones are among those whose jobs have all
+/// points of this modulation on each stream, and diagonals below 2^14.
 pub fn label_eight(modulation: Modulation, jobs: &[Job]) -> Labelled
     requires jobs { length jobs.now ≡ 8 }
     ensures some { 1 ≤ result.streams }

@@ -10,6 +10,7 @@
 #![tactic(auto)]
 
 mod block;
+mod columns;
 mod eight;
 mod labels;
 mod levels;
@@ -22,6 +23,7 @@ mod tests;
 mod words;
 
 pub use block::find_eight;
+pub use columns::Columns;
 pub use eight::{Eight, Labelled, label_eight, label_lanes};
 pub use levels::Levels;
 pub use only::find_only;

@@ -44,7 +44,7 @@ fn short(number: i16) -> u32
 
 // A part of row `row`, counted from 1, of a job of so many streams, as a word; 0 where the job hasn't it.
 #[inline(always)]
-fn part_of(job: &Job, streams: u8, row: u8, part: Part) -> u32
+pub(crate) fn part_of(job: &Job, streams: u8, row: u8, part: Part) -> u32
     requires streams { streams ≡ length job.now.system }
     requires row { 1 ≤ row }
     ensures { IsPartOf part row job.now.system result }

@@ -1,14 +1,9 @@
 -- Eight jobs of a block that are found together.
 use Rattle.std.proofs.Common.{◌≡◌, ℕ, zero, suc, ◌+◌, ◌%◌, ◌<◌, ◌≤◌, List, [], ◌∷◌, ◌++◌, Option, Some, IfSome, length, length-append, take, map, get_or}
 use Rattle.std.proofs.Common.{slice_get, slice_index, slice_index_or, arith, ap, refl, subst, sym, ◌∙◌}
-use Rattle.std.specs.List.{range_with_len}
-use Rattle.std.proofs.lemmas.List.{length-map}
-use Rattle.std.proofs.lemmas.List.FromFn.{length-range_with_len}
-use Rattle.std.proofs.lemmas.Option.{slice_get-get_or}
 use Rattle.ht_metric.specs.Jobs.{JobView, near}
 use Rattle.ht_pam.specs.declared.point.Point.{Point}
 use Rattle.ht_capture.specs.declared.items.FrameHead.{FrameHead}
-use Rattle.ht_metric.specs.declared.place.Place.{Place}
 use Rattle.ht_frames.specs.Tallies.{IsTally}
 use Rattle.ht_frames.proofs.Tallying.{take_one}
 use Rattle.ht_results.specs.Folding.{label_plan}
@@ -64,23 +59,6 @@ first_more jobs n job head own own' c d p c' d' p' ps ls ps' ls' is has kept lon
       is = subst (λ (js : List JobView). IsTally label_plan head js c' d' p' ps' ls') (sym (take_one jobs n job is))
           (subst (λ (h : FrameHead). IsTally label_plan h (take n jobs ++ job ∷ []) c' d' p' ps' ls') has.same now);
     }
-
--- one of eight, as its lane has it
-pub labelled_more : (jobs : List JobView) (n k : ℕ) (place : Place) (label : Point → ℕ) (lanes : Labelled) (head own own' : FrameHead) (c d p c' d' p' : ℕ)
-    (ps ls ps' ls' : List ℕ)
-    → n < length jobs → 0 < slice_index lanes.sure k → IfSome (slice_get jobs n) (λ job. job.place ≡ place)
-    → IfSome (slice_get jobs n) (λ job. 0 < slice_index lanes.sure k → IsLabelled label lanes k job)
-    → HasFirst jobs n head own c d p ps ls → own' ≡ own → length ps' ≡ length ls'
-    → ((js : List JobView) (job : JobView) → job.place ≡ place → IsLabelled label lanes k job → IsTally label_plan own js c d p ps ls
-    → IsTally label_plan own (js ++ job ∷ []) c' d' p' ps' ls')
-    → HasFirst jobs (n + 1) head own' c' d' p' ps' ls'
-labelled_more jobs n k place label lanes head own own' c d p c' d' p' ps ls ps' ls' lt sure at says has kept long added =
-    let job = get_or jobs n no_job in
-    let is : slice_get jobs n ≡ Some job = slice_get-get_or jobs n no_job lt in
-    let here : job.place ≡ place = subst (λ (o : Option JobView). IfSome o (λ j. j.place ≡ place)) is at in
-    let hit : 0 < slice_index lanes.sure k → IsLabelled label lanes k job =
-    subst (λ (o : Option JobView). IfSome o (λ j. 0 < slice_index lanes.sure k → IsLabelled label lanes k j)) is says in
-    first_more jobs n job head own own' c d p c' d' p' ps ls ps' ls' (sym is) has kept long (λ js tally. added js job here (hit sure) tally)
 
 -- a lane has a label of each stream
 pub as_many : (lanes : Labelled) (k n : ℕ) → n ≡ lanes.streams → n ≤ 4 → length (labels_in lanes k) ≡ n

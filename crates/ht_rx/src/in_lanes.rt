@@ -1,23 +1,26 @@
 //! Tallies of blocks whose jobs are found eight at a time.
-ghost use Rattle.std.specs.Prelude.{◌≡◌, ◌+◌, ◌-◌, ◌*◌, ◌/◌, ◌%◌, ◌^◌, ◌<◌, ◌≤◌, ◌++◌, ◌∷◌, [], ℕ, List, length, IfOk, OnOk};
+ghost use Rattle.std.specs.Prelude.{◌≡◌, ◌+◌, ◌-◌, ◌*◌, ◌/◌, ◌%◌, ◌^◌, ◌<◌, ◌≤◌, ◌++◌, ◌∷◌, [], ℕ, List, true, length, slice_index, IfOk, OnOk};
+ghost use Rattle.std.specs.List.{range_with_len};
 ghost use Rattle.ht_metric.specs.Jobs.{JobView, near};
+ghost use Rattle.ht_rate.specs.declared.kinds.Carrier.TheVariants.{Data};
 ghost use Rattle.ht_rate.specs.Rates.{modulation_of};
-ghost use Rattle.ht_rounding.specs.Labels.{IsLabelled, labels_in};
+ghost use Rattle.ht_rounding.specs.Labels.{labels_in};
 ghost use Rattle.ht_frames.specs.Tallies.{IsTally};
-ghost use Rattle.ht_results.specs.Folding.{label_at, label_plan};
-ghost use Rattle.ht_rx.specs.InLanes.{AreLabelledFrom, HasFirst, IsLabelledAt};
+ghost use Rattle.ht_results.specs.Folding.{label_at, label_plan, streams_in};
+ghost use Rattle.ht_rx.specs.InLanes.{AreLabelledFrom, HasFirst, jobs_behind, lane_labels};
 
 use crate::hard_labels::{HardLabels, push_labels};
 use ht_capture::FrameHead;
+use ht_capture_blocks::InLanes;
 use ht_feed::{Gate, InFrame, Jobs, OpenGate, Work, is_hard};
 use ht_frames::{Kind, Tally, run_gated, tally_of};
 use ht_metric::{Found, Job, Place};
 use ht_rate::{Carrier, Modulation};
-use ht_rounding::{Labelled, find_only, label_eight};
+use ht_rounding::{Labelled, find_only};
 use std::alloc::{AllocError, Global};
 
-/// Makes the tally of any block that knows its frame. Where the gate is open and the frame has several spatial streams, jobs are
-/// found eight at a time, in lanes (crate `ht_rounding`); else each by itself, between the two calls of the gate.
+/// Makes the tally of any block that knows its frame. Where the gate is open, jobs are found eight at a time, in lanes (crate
+/// `ht_rounding`); else each by itself, between the two calls of the gate.
 #[derive(Drop)]
 pub struct LaneWork<'g, G> {
     /// Where the memory for labels comes from.
@@ -26,12 +29,12 @@ pub struct LaneWork<'g, G> {
     pub gate: &'g G,
 }
 
-impl<'g, B: InFrame<Head = FrameHead>, G: Gate> Work<B> for LaneWork<'g, G> {
+impl<'g, B: InFrame<Head = FrameHead> + InLanes, G: Gate> Work<B> for LaneWork<'g, G> {
     type Answer = Tally<HardLabels>;
 
     fn answer_to(&self, block: &B) -> Result<Tally<HardLabels>, AllocError> {
         let head = block.head();
-        if self.gate.is_open() && head.rate.streams() > 1 {
+        if self.gate.is_open() {
             return tally_in_lanes(self.alloc, head, block);
         }
         tally_of::<HardLabels, B, G>(self.alloc, head, block, self.gate)
@@ -74,61 +77,150 @@ fn push_lane(labels: &mut Vec<u8>, lanes: &Labelled, k: usize) -> Result<(), All
 
 // The labels of eight jobs of a block, from the one on that has `at` others before it, in the lanes that are sure.
 #[inline(always)]
-fn lanes_from<B: Jobs>(modulation: Modulation, block: &B, at: u16) -> Labelled
+fn lanes_from<B: InLanes>(modulation: Modulation, block: &B, at: u16) -> Labelled
     requires within { at + 8 ≤ length (B.jobs block.now) }
-    requires few { length (B.jobs block.now) < 2 ^ 16 }
     ensures some { 1 ≤ result.streams }
     ensures most { result.streams ≤ 4 }
     ensures labels { AreLabelledFrom (label_at modulation) (B.jobs block.now) at result }
 {
-    let jobs = [
-        block.job(at),
-        block.job(at + 1),
-        block.job(at + 2),
-        block.job(at + 3),
-        block.job(at + 4),
-        block.job(at + 5),
-        block.job(at + 6),
-        block.job(at + 7),
-    ];
-    label_eight(modulation, &jobs)
+    block.labels(modulation, at)
 }
 
-// Adds one more job, from this place, as a lane has it that is sure. The only error is lack of memory.
+// A run of jobs on data subcarriers that follow one another: the place in the frame of its first label, the number of its jobs,
+// and the sum of their squared distances.
+#[derive(Clone, Copy)]
+struct Run {
+    place: usize,
+    jobs: u16,
+    distance: u64,
+}
+
+// The squared distance in a lane.
 #[inline(always)]
-fn add_lane(
-    tally: &mut Tally<HardLabels>,
-    place: Place,
+fn distance_in(lanes: &Labelled, k: u16) -> u64
+    requires { k < 8 }
+    ensures value { result ≡ slice_index lanes.now.distance k }
+    ensures few { result < 2 ^ 32 }
+{
+    u64::from(lanes.distance[usize::from(k)])
+}
+
+// Whether a lane is sure.
+#[inline(always)]
+fn is_sure(lanes: &Labelled, k: u16) -> bool
+    requires { k < 8 }
+    ensures { result ≡ true → 0 < slice_index lanes.now.sure k }
+{
+    lanes.sure[usize::from(k)] != 0
+}
+
+// Whether a place is that of data subcarrier m of a symbol.
+#[inline(always)]
+fn is_at(head: &FrameHead, place: Place, symbol: u32, m: u16) -> bool
+    ensures symbol { result ≡ true → place.symbol ≡ symbol }
+    ensures carrier { result ≡ true → label_plan.kind head.now place.carrier ≡ Data m }
+{
+    match HardLabels::carries(head, place.carrier) {
+        Carrier::Data(other) => u16::from(other) == m && place.symbol == symbol,
+        Carrier::Pilot(_) => false,
+    }
+}
+
+// Puts the labels of the longest run of eight jobs of a block that begins in the lane `first`, and whose lanes are sure, behind
+// others. The eight are those from the one on that has `at` others before it. The only error is lack of memory.
+#[inline(always)]
+fn push_run<B: Jobs>(
+    labels: &mut Vec<u8>,
+    head: &FrameHead,
+    block: &B,
+    at: u16,
     lanes: &Labelled,
-    k: usize,
-) -> Result<(), AllocError>
-    requires lane { k < 8 }
+    first: u16,
+) -> Result<Run, AllocError>
+    requires first { first < 8 }
+    requires within { at + 8 ≤ length (B.jobs block.now) }
+    requires few { length (B.jobs block.now) < 2 ^ 16 }
     requires some { 1 ≤ lanes.now.streams }
     requires most { lanes.now.streams ≤ 4 }
-    requires few { tally.old.jobs + 1 < 2 ^ 16 }
-    requires bounded { tally.old.data_sum + tally.old.pilot_sum ≤ tally.old.jobs * 2 ^ 66 }
-    requires long { length tally.old.places ≡ length tally.old.values.items }
-    ensures head { OnOk result (tally.new.head ≡ tally.old.head) }
-    ensures added { OnOk result ((jobs : List JobView) (job : JobView) → job.place ≡ place
-        → IsLabelled (label_at (modulation_of tally.old.head.rate)) lanes.now k job
-        → IsTally label_plan tally.old.head jobs tally.old.jobs tally.old.data_sum tally.old.pilot_sum tally.old.places tally.old.values.items
-        → IsTally label_plan tally.old.head (jobs ++ job ∷ []) tally.new.jobs tally.new.data_sum tally.new.pilot_sum tally.new.places tally.new.values.items) }
-    ensures long { OnOk result (length tally.new.places ≡ length tally.new.values.items) }
+    requires streams { lanes.now.streams ≡ streams_in head.now }
+    requires labels { AreLabelledFrom (label_at (modulation_of head.now.rate)) (B.jobs block.now) at lanes.now }
+    ensures within { IfOk result (λ run. first + run.jobs ≤ 8) }
+    ensures few { IfOk result (λ run. run.distance ≤ run.jobs * 2 ^ 32) }
+    ensures labels { IfOk result (λ run. labels.new.items ≡ labels.old.items ++ lane_labels lanes.now first run.jobs) }
+    ensures is { IfOk result (λ run. IsTally label_plan head.now (jobs_behind (B.jobs block.now) (at + first) run.jobs) run.jobs run.distance 0
+        (range_with_len run.place (run.jobs * lanes.now.streams)) (lane_labels lanes.now first run.jobs)) }
 {
-    tally.jobs += 1;
-    let distance = u128::from(lanes.distance[k]);
-    match HardLabels::carries(&tally.head, place.carrier) {
-        Carrier::Data(m) => {
-            let at = HardLabels::place(&tally.head, place.symbol, m);
-            tally.places.add(at, usize::from(lanes.streams))?;
-            push_lane(&mut tally.values, lanes, k)?;
-            tally.data_sum += distance;
+    let start = block.place_at(at + first);
+    let Carrier::Data(m) = HardLabels::carries(head, start.carrier) else {
+        return Ok(Run {
+            place: 0,
+            jobs: 0,
+            distance: 0,
+        });
+    };
+    let place = HardLabels::place(head, start.symbol, m);
+    let mut distance = 0;
+    for k in first..8 {
+        let jobs = k - first;
+        if !is_sure(lanes, k)
+            || !is_at(
+                head,
+                block.place_at(at + k),
+                start.symbol,
+                u16::from(m) + jobs,
+            )
+        {
+            return Ok(Run {
+                place,
+                jobs,
+                distance,
+            });
         }
-        Carrier::Pilot(_) => {
-            tally.pilot_sum += distance;
-        }
+        push_lane(labels, lanes, usize::from(k))?;
+        distance += distance_in(lanes, k);
     }
-    Ok(())
+    Ok(Run {
+        place,
+        jobs: 8 - first,
+        distance,
+    })
+}
+
+// Adds the longest run of eight jobs of a block that begins in the lane `first`, and answers how many jobs it has: none where that
+// lane isn't sure, or its job is on a pilot subcarrier.
+#[inline(always)]
+fn add_run<B: Jobs>(
+    tally: &mut Tally<HardLabels>,
+    block: &B,
+    at: u16,
+    lanes: &Labelled,
+    first: u16,
+) -> Result<u16, AllocError>
+    requires first { first < 8 }
+    requires within { at + 8 ≤ length (B.jobs block.now) }
+    requires few { length (B.jobs block.now) < 2 ^ 16 }
+    requires some { 1 ≤ lanes.now.streams }
+    requires most { lanes.now.streams ≤ 4 }
+    requires labels { AreLabelledFrom (label_at (modulation_of tally.old.head.rate)) (B.jobs block.now) at lanes.now }
+    requires is { HasFirst (B.jobs block.now)
+        (at + first) tally.old.head tally.old.head tally.old.jobs tally.old.data_sum tally.old.pilot_sum tally.old.places tally.old.values.items }
+    ensures within { IfOk result (λ jobs. first + jobs ≤ 8) }
+    ensures is { IfOk result (λ jobs. HasFirst (B.jobs block.now)
+        (at + first + jobs) tally.old.head tally.new.head tally.new.jobs tally.new.data_sum tally.new.pilot_sum tally.new.places tally.new.values.items) }
+{
+    if lanes.streams != tally.head.rate.streams() {
+        return Ok(0);
+    }
+    let run = push_run(&mut tally.values, &tally.head, block, at, lanes, first)?;
+    if run.jobs > 0 {
+        tally.places.add(
+            run.place,
+            usize::from(run.jobs) * usize::from(lanes.streams),
+        )?;
+        tally.jobs += run.jobs;
+        tally.data_sum += u128::from(run.distance);
+    }
+    Ok(run.jobs)
 }
 
 // Adds what was found for one more job, from this place. The only error is lack of memory.
@@ -187,36 +279,50 @@ fn add_alone<B: Jobs>(tally: &mut Tally<HardLabels>, block: &B, at: u16) -> Resu
     Ok(found.distance)
 }
 
-// Adds the job of a block that has `at` others before it, and answers its distance: as its lane has it, where that is sure.
+// What was added of eight jobs: the number of lanes, 1 or more, and the squared distance of the last job.
+#[derive(Clone, Copy)]
+struct Added {
+    lanes: u16,
+    distance: u128,
+}
+
+// Adds the next of eight jobs of a block, from the lane k on: a run that lanes found, or where there is none, one job by itself.
 #[inline(always)]
-fn add_one<B: Jobs>(
+fn add_next<B: Jobs>(
     tally: &mut Tally<HardLabels>,
     block: &B,
     at: u16,
     lanes: &Labelled,
-    k: usize,
-) -> Result<u128, AllocError>
+    k: u16,
+) -> Result<Added, AllocError>
     requires lane { k < 8 }
+    requires within { at + 8 ≤ length (B.jobs block.now) }
+    requires few { length (B.jobs block.now) < 2 ^ 16 }
     requires some { 1 ≤ lanes.now.streams }
     requires most { lanes.now.streams ≤ 4 }
-    requires within { at < length (B.jobs block.now) }
-    requires few { length (B.jobs block.now) < 2 ^ 16 }
-    requires labels { IsLabelledAt (label_at (modulation_of tally.old.head.rate)) (B.jobs block.now) at lanes.now k }
-    requires is { HasFirst (B.jobs block.now) at tally.old.head tally.old.head tally.old.jobs tally.old.data_sum tally.old.pilot_sum tally.old.places
-        tally.old.values.items }
-    ensures { OnOk result (HasFirst (B.jobs block.now)
-        (at + 1) tally.old.head tally.new.head tally.new.jobs tally.new.data_sum tally.new.pilot_sum tally.new.places tally.new.values.items) }
+    requires labels { AreLabelledFrom (label_at (modulation_of tally.old.head.rate)) (B.jobs block.now) at lanes.now }
+    requires is { HasFirst (B.jobs block.now)
+        (at + k) tally.old.head tally.old.head tally.old.jobs tally.old.data_sum tally.old.pilot_sum tally.old.places tally.old.values.items }
+    ensures some { IfOk result (λ added. 1 ≤ added.lanes) }
+    ensures within { IfOk result (λ added. k + added.lanes ≤ 8) }
+    ensures is { IfOk result (λ added. HasFirst (B.jobs block.now)
+        (at + k + added.lanes) tally.old.head tally.new.head tally.new.jobs tally.new.data_sum tally.new.pilot_sum tally.new.places tally.new.values.items) }
 {
-    if lanes.sure[k] == 0 {
-        return add_alone(tally, block, at);
+    let jobs = add_run(tally, block, at, lanes, k)?;
+    if jobs == 0 {
+        let distance = add_alone(tally, block, at + k)?;
+        return Ok(Added { lanes: 1, distance });
     }
-    add_lane(tally, block.place_at(at), lanes, k)?;
-    Ok(u128::from(lanes.distance[k]))
+    let distance = u128::from(distance_in(lanes, k + jobs - 1));
+    Ok(Added {
+        lanes: jobs,
+        distance,
+    })
 }
 
 // Adds the last jobs of eight, from the lane `first` on: those of a block from the one on that has `at` others before it. It
 // answers the distance of the last one.
-fn add_lanes<B: Jobs>(
+fn add_lanes<B: InLanes>(
     tally: &mut Tally<HardLabels>,
     block: &B,
     at: u16,
@@ -232,8 +338,11 @@ fn add_lanes<B: Jobs>(
 {
     let lanes = lanes_from(tally.head.rate.modulation(), block, at);
     let mut distance = 0;
-    for k in first..8 {
-        distance = add_one(tally, block, at + k, &lanes, usize::from(k))?;
+    let mut k = first;
+    while k < 8 {
+        let added = add_next(tally, block, at, &lanes, k)?;
+        k += added.lanes;
+        distance = added.distance;
     }
     Ok(distance)
 }
@@ -259,7 +368,7 @@ fn add_each<B: Jobs>(
 
 // Adds the jobs of a block behind its eights, the last of which has this distance, and answers that of the last job. Where the
 // block has eight jobs, the last eight are taken once more, of which the first ones were added before.
-fn add_rest<B: Jobs>(
+fn add_rest<B: InLanes>(
     tally: &mut Tally<HardLabels>,
     block: &B,
     size: u16,
@@ -282,9 +391,9 @@ fn add_rest<B: Jobs>(
 }
 
 // What the jobs of a block come to, which are of a frame with this head. The only error is lack of memory. It stays out of line,
-// since what it needs would cost frames of one spatial stream, which never come here.
+// so that what it needs costs nothing where jobs are found by themselves.
 #[inline(never)]
-fn tally_in_lanes<B: Jobs>(
+fn tally_in_lanes<B: InLanes>(
     alloc: Global,
     head: &FrameHead,
     block: &B,

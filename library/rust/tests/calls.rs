@@ -3,7 +3,7 @@ use mizgaure::*;
 
 #[test]
 fn calls() {
-    assert_eq!(version(), 3);
+    assert_eq!(version(), 4);
     let mut bits = [false; 127];
     scramble(127, &mut bits).unwrap();
     assert_eq!(bits[..8], [false, false, false, false, true, true, true, false]); // clause 18.3.5.5

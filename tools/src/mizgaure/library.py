@@ -22,7 +22,7 @@ import numpy as np
 from .errors import InputError
 from .rates import Rate
 
-VERSION = 3
+VERSION = 4
 
 #: An entry of a channel above the diagonal.
 TAP = np.dtype([("re", "<i2"), ("im", "<i2")])
@@ -212,6 +212,9 @@ _legacy_pass = _call("legacy_pass", _U64, _U16, _P, _N, _P, _N, _P, _P)
 _detect_size = _call("detect_size", _P, _N)
 _rx_size = _call("rx_size", _P, _N)
 _soft_size = _call("soft_size", _P, _N)
+_lrx_size = _call("lrx_size", _P, _N)
+_many_size = _call("many_size", _P, _N)
+_check_size = _call("check_size", _P, _N)
 
 _PERIODS = (1, 2, 3, 5)
 _INT32 = np.dtype(np.int32)
@@ -625,6 +628,21 @@ def soft_size(capture: Octets) -> int:
     return _sized(_soft_size, capture)
 
 
+def lrx_size(capture: Octets) -> int:
+    """A number of octets that suffices for ``out`` of ``lrx``: half of the capture's own and 32."""
+    return _sized(_lrx_size, capture)
+
+
+def many_size(bundle: Octets) -> int:
+    """A number of octets that suffices for ``out`` of ``many`` where each capture of the bundle is whole: 17 times its own."""
+    return _sized(_many_size, bundle)
+
+
+def check_size(certificates: Octets) -> int:
+    """A number of octets that suffices for ``out`` of ``check``: twice the file's own and 16."""
+    return _sized(_check_size, certificates)
+
+
 def detect(capture: Octets, out: Optional[np.ndarray] = None) -> Union[bytes, memoryview]:
     """The text of ``radio detect`` for a capture (HTCP) in memory.
 
@@ -645,8 +663,8 @@ def soft(capture: Octets, out: Optional[np.ndarray] = None) -> Union[bytes, memo
 
 
 def lrx(capture: Octets, out: Optional[np.ndarray] = None) -> Union[bytes, memoryview]:
-    """The text of ``radio lrx`` for a capture of clause 18 frames (LGCP) in memory. ``out`` is as in ``detect``."""
-    return _written(_lrx, capture, out=out)
+    """The text of ``radio lrx`` for a capture of clause 18 frames (LGCP) in memory. ``out`` is as in ``detect``, with ``lrx_size``."""
+    return _written(_lrx, capture, out=out, room_by=_lrx_size)
 
 
 def certify(capture: Octets) -> bytes:
@@ -654,9 +672,9 @@ def certify(capture: Octets) -> bytes:
     return _written(_certify, capture)
 
 
-def check(certificates: Octets) -> bytes:
-    """The text of ``radio check`` for a file of certificates (HTCT) in memory."""
-    return _written(_check_file, certificates)
+def check(certificates: Octets, out: Optional[np.ndarray] = None) -> Union[bytes, memoryview]:
+    """The text of ``radio check`` for a file of certificates (HTCT) in memory. ``out`` is as in ``detect``, with ``check_size``."""
+    return _written(_check_file, certificates, out=out, room_by=_check_size)
 
 
 def channel(symbols: Octets, seed: int = 1, noise: int = 0) -> bytes:
@@ -665,8 +683,8 @@ def channel(symbols: Octets, seed: int = 1, noise: int = 0) -> bytes:
 
 
 def many(bundle: Octets, out: Optional[np.ndarray] = None) -> Union[bytes, memoryview]:
-    """The text of ``radio many`` for a bundle of captures (HTMB) in memory. ``out`` is as in ``detect``."""
-    return _written(_many, bundle, out=out)
+    """The text of ``radio many`` for a bundle of captures (HTMB) in memory. ``out`` is as in ``detect``, with ``many_size``."""
+    return _written(_many, bundle, out=out, room_by=_many_size)
 
 
 def tx(frames: Octets) -> bytes:

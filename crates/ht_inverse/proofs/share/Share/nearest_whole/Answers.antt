@@ -14,7 +14,8 @@ decode_packed-requires-clause-places c =
     let s = c.args.self.now in
     subst (λ (ws : List ℕ). sent_count c.pattern.result c.args.steps ≤ 60 * length ws) (sym c.deref.ensures.value)
     (subst (λ (n : ℕ). sent_count c.pattern.result n ≤ 60 * length c.in_ok-words.words.items) (sym c.requires.steps.2)
-    (subst (λ (p : Pattern). sent_count p (steps_of s.rate c.args.frame.now.octets) ≤ 60 * length c.in_ok-words.words.items) (sym c.pattern.ensures) c.in_ok-words.ensures.places))
+    (subst (λ (p : Pattern). sent_count p (steps_of s.rate c.args.frame.now.octets) ≤ 60 * length c.in_ok-words.words.items)
+    (sym c.pattern.ensures) c.in_ok-words.ensures.places))
 
 pub returns : goal.returns
 returns c =

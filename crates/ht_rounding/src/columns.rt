@@ -1,0 +1,310 @@
+//! The channels of a frame's subcarriers as columns of words, out of which lanes are loaded.
+ghost use Rattle.std.specs.Prelude.{◌≡◌, ◌+◌, ◌<◌, ◌≤◌, ◌++◌, ◌∷◌, [], ℕ, List, length, slice_index, slice_index_or, unwrap_or, IfOk, OnOk};
+ghost use Rattle.ht_map.specs.Gray.{label_of};
+ghost use Rattle.ht_metric.specs.Jobs.{JobView};
+ghost use Rattle.ht_rounding.specs.declared.loading.Part.TheVariants.{Diagonal, EntryRe, EntryIm};
+ghost use Rattle.ht_rounding.specs.Columns.{AreColumns, AreEntries, AreRows, EntriesReach, HasLeg, HasLegs, HasSamples, IsColumn};
+ghost use Rattle.ht_rounding.specs.Columns.{IsLikePlain, Reaches, RowReaches};
+ghost use Rattle.ht_rounding.specs.InLanes.{IsSmall};
+ghost use Rattle.ht_rounding.specs.Labels.{HasJob, IsLabelled, i_levels, q_levels};
+ghost use Rattle.ht_rounding.specs.Loading.{no_job};
+ghost use Rattle.ht_rounding.specs.Proposals.{AreSmall};
+
+use crate::eight::{Eight, Labelled, label_lanes, levels_by, plainness, unsure};
+use crate::loading::{Part, part_of};
+use crate::rows::Parts;
+use crate::streams::{Channel, RowLanes, Samples};
+use crate::words::lesser;
+use ht_metric::Job;
+use ht_rate::Modulation;
+use std::alloc::{AllocError, Global};
+use std::simd::prelude::*;
+
+/// The parts of an entry on each subcarrier.
+#[derive(Debug, Drop)]
+pub(crate) struct EntryColumns {
+    pub re: Vec<u32>,
+    pub im: Vec<u32>,
+}
+
+/// A row of the channel on each subcarrier. Columns that the frame's streams don't have are empty.
+#[derive(Debug, Drop)]
+pub(crate) struct RowColumns {
+    pub diagonal: Vec<u32>,
+    pub next: EntryColumns,
+    pub second: EntryColumns,
+    pub third: EntryColumns,
+}
+
+/// The channels of a frame's subcarriers: each part of each row of the triangles in a column of words, one for each subcarrier.
+///
+/// Symbols of the frame share it: with what was received on eight subcarriers that follow one another, it says the labels of
+/// what was sent.
+#[derive(Debug, Drop)]
+pub struct Columns {
+    modulation: Modulation,
+    streams: u8,
+    first: RowColumns,
+    second: RowColumns,
+    third: RowColumns,
+    fourth: RowColumns,
+    plain: Vec<u32>,
+}
+
+// A column of nothing, with memory for so many words where there are at least `least` streams.
+fn column(alloc: Global, count: usize, streams: u8, least: u8) -> Result<Vec<u32>, AllocError>
+    ensures { IfOk result (λ column. column.items ≡ []) }
+{
+    Vec::with_capacity(alloc, if streams < least { 0 } else { count })
+}
+
+// The columns of an entry of no jobs, which at least `least` streams have.
+fn entry_columns(
+    alloc: Global,
+    count: usize,
+    streams: u8,
+    least: u8,
+) -> Result<EntryColumns, AllocError>
+    ensures re { IfOk result (λ entries. entries.re.items ≡ []) }
+    ensures im { IfOk result (λ entries. entries.im.items ≡ []) }
+{
+    Ok(EntryColumns {
+        re: column(alloc, count, streams, least)?,
+        im: column(alloc, count, streams, least)?,
+    })
+}
+
+// The columns of row `row`, counted from 1, of no jobs.
+fn row_columns(alloc: Global, count: usize, streams: u8, row: u8) -> Result<RowColumns, AllocError>
+    requires { row ≤ 4 }
+    ensures { IfOk result (λ rows. AreRows streams row [] rows) }
+{
+    Ok(RowColumns {
+        diagonal: column(alloc, count, streams, row)?,
+        next: entry_columns(alloc, count, streams, row + 1)?,
+        second: entry_columns(alloc, count, streams, row + 2)?,
+        third: entry_columns(alloc, count, streams, row + 3)?,
+    })
+}
+
+// Puts a part of a job's row behind those of other jobs.
+fn push_part(
+    column: &mut Vec<u32>,
+    job: &Job,
+    streams: u8,
+    row: u8,
+    part: Part,
+) -> Result<(), AllocError>
+    requires streams { streams ≡ length job.now.system }
+    requires row { 1 ≤ row }
+    ensures { OnOk result ((jobs : List JobView) → IsColumn part row jobs column.old.items → IsColumn part row (jobs ++ job.now ∷ []) column.new.items) }
+{
+    column.push(part_of(job, streams, row, part))?;
+    Ok(())
+}
+
+// Puts an entry of a job's row behind those of other jobs, where the row has it: at 0 that of the next stream.
+fn push_entry(
+    entries: &mut EntryColumns,
+    job: &Job,
+    streams: u8,
+    row: u8,
+    at: u8,
+) -> Result<(), AllocError>
+    requires streams { streams ≡ length job.now.system }
+    requires row { 1 ≤ row }
+    requires most { row ≤ 4 }
+    requires few { at < 3 }
+    ensures { OnOk result ((jobs : List JobView) → AreEntries streams row at jobs entries.old → AreEntries streams row at (jobs ++ job.now ∷ []) entries.new) }
+{
+    if streams < row + 1 + at {
+        return Ok(());
+    }
+    push_part(&mut entries.re, job, streams, row, Part::EntryRe(at))?;
+    push_part(&mut entries.im, job, streams, row, Part::EntryIm(at))?;
+    Ok(())
+}
+
+// Puts a row of a job behind those of other jobs, where there is one.
+fn push_row(rows: &mut RowColumns, job: &Job, streams: u8, row: u8) -> Result<(), AllocError>
+    requires streams { streams ≡ length job.now.system }
+    requires row { 1 ≤ row }
+    requires most { row ≤ 4 }
+    ensures { OnOk result ((jobs : List JobView) → AreRows streams row jobs rows.old → AreRows streams row (jobs ++ job.now ∷ []) rows.new) }
+{
+    if streams < row {
+        return Ok(());
+    }
+    push_part(&mut rows.diagonal, job, streams, row, Part::Diagonal)?;
+    push_entry(&mut rows.next, job, streams, row, 0)?;
+    push_entry(&mut rows.second, job, streams, row, 1)?;
+    push_entry(&mut rows.third, job, streams, row, 2)?;
+    Ok(())
+}
+
+// Eight words of a column, from the one on that has `at` others before it; 0 where there are fewer streams than have the column.
+#[inline(always)]
+fn part_lanes(column: &[u32], streams: u8, least: u8, at: usize) -> u32x8
+    requires { least ≤ streams → at + 8 ≤ length column.now }
+    ensures { least ≤ streams → (k : ℕ) → k < 8 → slice_index result k ≡ slice_index column.now (at + k) }
+{
+    if streams < least {
+        return u32x8::splat(0);
+    }
+    u32x8::from_slice(&column[at..])
+}
+
+// The same of both parts of an entry.
+#[inline(always)]
+fn entry_lanes(entries: &EntryColumns, streams: u8, least: u8, at: usize) -> Parts
+    requires { least ≤ streams → EntriesReach (at + 8) entries.now }
+    ensures re { least ≤ streams → (k : ℕ) → k < 8 → slice_index result.re k ≡ slice_index entries.now.re.items (at + k) }
+    ensures im { least ≤ streams → (k : ℕ) → k < 8 → slice_index result.im k ≡ slice_index entries.now.im.items (at + k) }
+{
+    Parts {
+        re: part_lanes(&entries.re, streams, least, at),
+        im: part_lanes(&entries.im, streams, least, at),
+    }
+}
+
+// Row `row` of eight subcarriers; diagonals are cut at 2^14 - 1.
+#[inline(always)]
+fn row_lanes(rows: &RowColumns, streams: u8, row: u8, at: usize) -> RowLanes
+    requires row { row ≤ 4 }
+    requires reach { RowReaches streams row (at + 8) rows.now }
+    ensures small { AreSmall result.diagonal }
+    ensures legs { (jobs : List JobView) (k : ℕ) → AreRows streams row jobs rows.now → at + 8 ≤ length jobs → k < 8
+        → length (slice_index_or jobs (at + k) no_job).system ≡ streams → HasLeg result k row (slice_index_or jobs (at + k) no_job).system }
+{
+    let diagonal = part_lanes(&rows.diagonal, streams, row, at);
+    RowLanes {
+        diagonal: lesser(diagonal, u32x8::splat(16383)),
+        next: entry_lanes(&rows.next, streams, row + 1, at),
+        second: entry_lanes(&rows.second, streams, row + 2, at),
+        third: entry_lanes(&rows.third, streams, row + 3, at),
+    }
+}
+
+// The channels of eight subcarriers.
+#[inline(always)]
+fn channel_lanes(columns: &Columns, streams: u8, at: usize) -> Channel
+    requires streams { streams ≡ columns.now.streams }
+    requires reach { Reaches (at + 8) columns.now }
+    ensures small { IsSmall result }
+    ensures legs { (jobs : List JobView) (k : ℕ) → AreColumns jobs columns.now → at + 8 ≤ length jobs → k < 8
+        → HasLegs result k (slice_index_or jobs (at + k) no_job).system }
+{
+    Channel {
+        first: row_lanes(&columns.first, streams, 1, at),
+        second: row_lanes(&columns.second, streams, 2, at),
+        third: row_lanes(&columns.third, streams, 3, at),
+        fourth: row_lanes(&columns.fourth, streams, 4, at),
+    }
+}
+
+// Eight subcarriers of so many streams, on which this was received.
+#[inline(always)]
+fn eight_of(columns: &Columns, streams: u8, at: usize, samples: &Samples) -> Eight
+    requires streams { streams ≡ columns.now.streams }
+    requires reach { Reaches (at + 8) columns.now }
+    ensures small { IsSmall result.channel }
+    ensures jobs { (jobs : List JobView) (k : ℕ) (job : JobView) → AreColumns jobs columns.now → at + 8 ≤ length jobs → k < 8
+        → IsLikePlain columns.now (slice_index_or jobs (at + k) no_job) job → HasSamples samples.now k job.system
+        → HasJob (i_levels columns.now.modulation) (q_levels columns.now.modulation) result streams k job }
+{
+    Eight {
+        channel: channel_lanes(columns, streams, at),
+        samples: *samples,
+        plain: part_lanes(&columns.plain, 1, 0, at),
+    }
+}
+
+// The labels of eight subcarriers of so many streams.
+#[inline(always)]
+fn labels_of(columns: &Columns, streams: u8, at: usize, samples: &Samples) -> Labelled
+    requires streams { streams ≡ columns.now.streams }
+    requires reach { Reaches (at + 8) columns.now }
+    ensures streams { result.streams ≡ columns.now.streams }
+    ensures labels { (jobs : List JobView) (k : ℕ) (job : JobView) → AreColumns jobs columns.now → at + 8 ≤ length jobs → k < 8
+        → IsLikePlain columns.now (slice_index_or jobs (at + k) no_job) job → HasSamples samples.now k job.system → 0 < slice_index result.sure k
+        → IsLabelled (λ p. unwrap_or (label_of columns.now.modulation p) 0) result k job }
+{
+    let eight = eight_of(columns, streams, at, samples);
+    label_lanes(columns.modulation, streams, &eight)
+}
+
+// The same, with code of its own for each number of streams.
+fn labels_by(columns: &Columns, at: usize, samples: &Samples) -> Labelled
+    requires { Reaches (at + 8) columns.now }
+    ensures streams { result.streams ≡ columns.now.streams }
+    ensures labels { (jobs : List JobView) (k : ℕ) (job : JobView) → AreColumns jobs columns.now → at + 8 ≤ length jobs → k < 8
+        → IsLikePlain columns.now (slice_index_or jobs (at + k) no_job) job → HasSamples samples.now k job.system → 0 < slice_index result.sure k
+        → IsLabelled (λ p. unwrap_or (label_of columns.now.modulation p) 0) result k job }
+{
+    match columns.streams {
+        1 => labels_of(columns, 1, at, samples),
+        2 => labels_of(columns, 2, at, samples),
+        3 => labels_of(columns, 3, at, samples),
+        _ => labels_of(columns, 4, at, samples),
+    }
+}
+
+impl Columns {
+    /// Columns of no subcarrier, for a frame of this modulation and one to four streams, with memory for so many subcarriers.
+    /// The only error is lack of memory.
+    pub fn new(
+        alloc: Global,
+        modulation: Modulation,
+        streams: u8,
+        count: usize,
+    ) -> Result<Columns, AllocError>
+        requires some { 1 ≤ streams }
+        requires few { streams ≤ 4 }
+        ensures modulation { IfOk result (λ columns. columns.modulation ≡ modulation) }
+        ensures streams { IfOk result (λ columns. columns.streams ≡ streams) }
+        ensures none { IfOk result (λ columns. AreColumns [] columns) }
+    {
+        Ok(Columns {
+            modulation,
+            streams,
+            first: row_columns(alloc, count, streams, 1)?,
+            second: row_columns(alloc, count, streams, 2)?,
+            third: row_columns(alloc, count, streams, 3)?,
+            fourth: row_columns(alloc, count, streams, 4)?,
+            plain: Vec::with_capacity(alloc, count)?,
+        })
+    }
+
+    /// Puts the channel of one more subcarrier behind the others: that of any of its jobs. The only error is lack of memory.
+    pub fn push(&mut self, job: &Job) -> Result<(), AllocError>
+        requires { length job.now.system ≡ self.old.streams }
+        ensures modulation { OnOk result (self.new.modulation ≡ self.old.modulation) }
+        ensures streams { OnOk result (self.new.streams ≡ self.old.streams) }
+        ensures more { OnOk result ((jobs : List JobView) → AreColumns jobs self.old → AreColumns (jobs ++ job.now ∷ []) self.new) }
+    {
+        let streams = self.streams;
+        let (i, q) = levels_by(self.modulation);
+        push_row(&mut self.first, job, streams, 1)?;
+        push_row(&mut self.second, job, streams, 2)?;
+        push_row(&mut self.third, job, streams, 3)?;
+        push_row(&mut self.fourth, job, streams, 4)?;
+        self.plain.push(plainness(i, q, streams, job))?;
+        Ok(())
+    }
+
+    /// The labels of what was sent on eight subcarriers, from the one on that has `at` others before it, and the squared
+    /// distances, in the lanes that are sure. Where the frame's modulation is another one, none is.
+    pub fn labels(&self, modulation: Modulation, at: usize, samples: &Samples) -> Labelled
+        requires { Reaches (at + 8) self.now }
+        ensures some { 1 ≤ result.streams }
+        ensures few { result.streams ≤ 4 }
+        ensures labels { (jobs : List JobView) (k : ℕ) (job : JobView) → AreColumns jobs self.now → at + 8 ≤ length jobs → k < 8
+            → IsLikePlain self.now (slice_index_or jobs (at + k) no_job) job → HasSamples samples.now k job.system → 0 < slice_index result.sure k
+            → IsLabelled (λ p. unwrap_or (label_of modulation p) 0) result k job }
+    {
+        if self.modulation != modulation {
+            return unsure(self.streams);
+        }
+        labels_by(self, at, samples)
+    }
+}
