@@ -2,7 +2,7 @@
 //! proved function of `libmizgaure`. docs/LIBRARY.md says what is proved of them; this crate, which hands them slices, is tested and
 //! not proved. Clauses named here are those of the standard.
 //!
-//! ```no_run
+//! ```
 //! use mizgaure::{nearest, Channel, Point, Rate, Received, Sample, Tap};
 //!
 //! let mut channel = Channel { diagonal: [10, 10, 0, 0], ..Channel::default() };
