@@ -27,7 +27,7 @@ fn texts() {
         (many, "worked/three.htmb", "worked/three.many"),
         (certify, "worked/z.htcp", "worked/z.htct"),
         (check, "worked/z.htct", "worked/z.check"),
-        (check, "certificates/rates-bw0-mcs09-spoiled.htct", "certificates/rates-bw0-mcs09-spoiled.check"),
+        (check, "certificates/rates-bw0-mcs21-spoiled.htct", "certificates/rates-bw0-mcs21-spoiled.check"),
         (tx, "worked/a5.httx", "worked/a5.htsy"),
         (tx, "rates/bw1-mcs31.httx", "rates/bw1-mcs31.htsy"),
         (upgrade, "worked/z.htcp", "worked/z.upgraded"),
@@ -97,6 +97,7 @@ fn refusals() {
         (soft, "worked/z-bad-longer.htcp", "worked/z-bad-longer.soft"), (rx, "worked/zz-bad-mcs.htcp", "worked/zz-bad-mcs.rx"),
         (rx, "worked/a5-bad-erased.htcp", "worked/a5-bad-erased.rx"), (many, "worked/no-captures.htmb", "worked/no-captures.many"),
         (tx, "worked/a5-bad-seed.httx", "worked/a5-bad-seed.htsy"),
+        (check, "certificates/rates-bw0-mcs09-spoiled.htct", "certificates/rates-bw0-mcs09-spoiled.check"),
     ] {
         let wanted = String::from_utf8(vector(line)).unwrap();
         let said = call(&vector(input)).unwrap_err();
