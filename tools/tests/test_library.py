@@ -99,14 +99,15 @@ COMMANDS["lchannel"] = library.legacy_channel
 def rows():
     """What .ci/vectors runs: for each command its inputs, each with what the library has to answer, a text and a refusal of which one is
     empty, and with the seed and the noise where these are words of the call. Workers and windows change no text, so they are left out."""
+    names = {"--seed": "seed", "--noise": "noise"}
     listed = subprocess.run([str(TOP / ".ci" / "vectors"), "--list"], capture_output=True, text=True, check=True).stdout
     made = {}
     for command, status, given, wanted, *words in map(str.split, listed.splitlines()):
         text = (TOP / wanted).read_bytes()
         last = text.splitlines()[-1].decode("latin-1")
         due = (b"", last) if status == "1" and last.startswith("refused ") else (text, "")
-        options = dict(zip(words[::2], map(int, words[1::2]))) if command in ("channel", "lchannel") else {}
-        made.setdefault(command, {})[given, wanted] = due, tuple(options.get(name, default) for name, default in (("--seed", 42), ("--noise", 0)))
+        options = {names[name]: int(value) for name, value in zip(words[::2], words[1::2]) if command in ("channel", "lchannel")}
+        made.setdefault(command, {})[given, wanted] = due, options
     return made
 
 
@@ -120,7 +121,7 @@ def test_texts_are_those_of_the_vectors(command):
     for (given, _), (due, options) in rows()[command].items():
         capture, said, refusal = (TOP / given).read_bytes(), b"", ""
         try:
-            said = call(capture, *options) if command in ("channel", "lchannel") else call(capture)
+            said = call(capture, **options)
         except library.Refused as refused:
             refusal = str(refused)
         if (said, refusal) != due:

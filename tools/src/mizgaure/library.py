@@ -659,7 +659,7 @@ def check(certificates: Octets) -> bytes:
     return _written(_check_file, certificates)
 
 
-def channel(symbols: Octets, seed: int = 1, noise: int = 0) -> bytes:
+def channel(symbols: Octets, seed: int = 42, noise: int = 0) -> bytes:
     """The capture (HTCP) of ``radio channel`` for a file of symbols (HTSY) in memory, with its seed and its noise."""
     return _written(_pass, symbols, _ranged("the seed", seed, (1 << 64) - 1), _ranged("the noise", noise, 65535))
 
@@ -679,7 +679,7 @@ def upgrade(capture: Octets) -> bytes:
     return _written(_upgrade, capture)
 
 
-def legacy_channel(frames: Octets, seed: int = 1, noise: int = 0) -> bytes:
+def legacy_channel(frames: Octets, seed: int = 42, noise: int = 0) -> bytes:
     """The capture (LGCP) of ``radio lchannel`` for a file of clause 18 frames (LGTX) in memory, with its seed and its noise."""
     return _written(_legacy_pass, frames, _ranged("the seed", seed, (1 << 64) - 1), _ranged("the noise", noise, 65535))
 
