@@ -126,7 +126,7 @@ def test_texts_are_those_of_the_vectors(command):
             refusal = str(refused)
         if (said, refusal) != due:
             wrong.append(given)
-    assert rows()[command] and not wrong
+    assert not wrong and rows()[command]
 
 
 def test_a_bundle_of_one_capture_has_its_text():
@@ -136,7 +136,7 @@ def test_a_bundle_of_one_capture_has_its_text():
         capture, due = (TOP / given).read_bytes(), (TOP / wanted).read_bytes()
         if library.many(b"HTMB\x01\x01" + len(capture).to_bytes(4, "big") + capture) != b"capture 0\n" + due:
             wrong.append(given)
-    assert rows()["rx"] and not wrong
+    assert not wrong and rows()["rx"]
 
 
 @pytest.mark.parametrize("rate, n", [(Rate(20, 13), 1), (Rate(40, 31), 2)])
