@@ -1,6 +1,7 @@
 """The proved library over numpy: values that the standard and arithmetic say, the program's own texts, layouts and faults."""
 
 import ctypes
+import functools
 import importlib.util
 import os
 import subprocess
@@ -90,18 +91,52 @@ def test_frames_come_back():
     assert (sent[0, rate.is_pilot, :, 0] == np.stack([library.pilots(rate, 0, k) for k in (1, 2)], 1)).all()
 
 
-@pytest.mark.parametrize("command, some", [("detect", "jobs/*"), ("detect", "rates/bw1-mcs3*"), ("rx", "rates/*"), ("soft", "rates/bw0-mcs0*")])
-def test_texts_are_those_of_the_vectors(command, some):
-    texts = [path for path in VECTORS.glob(f"{some}.{command}") if path.with_suffix(".htcp").exists()]
-    assert texts
-    for text in texts:
+COMMANDS = {command: getattr(library, command) for command in ("detect", "rx", "soft", "many", "lrx", "tx", "channel", "upgrade", "certify", "check")}
+COMMANDS["lchannel"] = library.legacy_channel
+
+
+@functools.cache
+def rows():
+    """What .ci/vectors runs: for each command its inputs, each with what the library has to answer, a text and a refusal of which one is
+    empty, and with the seed and the noise where these are words of the call. Workers and windows change no text, so they are left out."""
+    names = {"--seed": "seed", "--noise": "noise"}
+    listed = subprocess.run([str(TOP / ".ci" / "vectors"), "--list"], capture_output=True, text=True, check=True).stdout
+    made = {}
+    for command, status, given, wanted, *words in map(str.split, listed.splitlines()):
+        text = (TOP / wanted).read_bytes()
+        last = text.splitlines()[-1].decode("latin-1")
+        due = (b"", last) if status == "1" and last.startswith("refused ") else (text, "")
+        options = {names[name]: int(value) for name, value in zip(words[::2], words[1::2]) if command in ("channel", "lchannel")}
+        made.setdefault(command, {})[given, wanted] = due, options
+    return made
+
+
+def test_all_commands_of_the_vectors_are_calls():
+    assert set(rows()) == set(COMMANDS)
+
+
+@pytest.mark.parametrize("command", COMMANDS)
+def test_texts_are_those_of_the_vectors(command):
+    wrong, call = [], COMMANDS[command]
+    for (given, _), (due, options) in rows()[command].items():
+        capture, said, refusal = (TOP / given).read_bytes(), b"", ""
         try:
-            said = getattr(library, command)(text.with_suffix(".htcp").read_bytes())
+            said = call(capture, **options)
         except library.Refused as refused:
-            said = f"{refused}\n".encode()
-            assert text.read_bytes().endswith(said)
-        else:
-            assert said == text.read_bytes(), text.name
+            refusal = str(refused)
+        if (said, refusal) != due:
+            wrong.append(given)
+    assert not wrong and rows()[command]
+
+
+def test_a_bundle_of_one_capture_has_its_text():
+    """Of each capture of the vectors that rx has a text for, as .ci/vectors makes them."""
+    wrong = []
+    for given, wanted in rows()["rx"]:
+        capture, due = (TOP / given).read_bytes(), (TOP / wanted).read_bytes()
+        if library.many(b"HTMB\x01\x01" + len(capture).to_bytes(4, "big") + capture) != b"capture 0\n" + due:
+            wrong.append(given)
+    assert not wrong and rows()["rx"]
 
 
 def test_sizes_suffice_for_clause_18_bundles_and_checks():

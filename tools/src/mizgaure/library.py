@@ -677,7 +677,7 @@ def check(certificates: Octets, out: Optional[np.ndarray] = None) -> Union[bytes
     return _written(_check_file, certificates, out=out, room_by=_check_size)
 
 
-def channel(symbols: Octets, seed: int = 1, noise: int = 0) -> bytes:
+def channel(symbols: Octets, seed: int = 42, noise: int = 0) -> bytes:
     """The capture (HTCP) of ``radio channel`` for a file of symbols (HTSY) in memory, with its seed and its noise."""
     return _written(_pass, symbols, _ranged("the seed", seed, (1 << 64) - 1), _ranged("the noise", noise, 65535))
 
@@ -697,7 +697,7 @@ def upgrade(capture: Octets) -> bytes:
     return _written(_upgrade, capture)
 
 
-def legacy_channel(frames: Octets, seed: int = 1, noise: int = 0) -> bytes:
+def legacy_channel(frames: Octets, seed: int = 42, noise: int = 0) -> bytes:
     """The capture (LGCP) of ``radio lchannel`` for a file of clause 18 frames (LGTX) in memory, with its seed and its noise."""
     return _written(_legacy_pass, frames, _ranged("the seed", seed, (1 << 64) - 1), _ranged("the noise", noise, 65535))
 
