@@ -9,6 +9,9 @@ use crate::walking::Format;
 /// may walk the whole grid, which takes seconds for a job of four streams in 64-QAM.
 pub const CHEAP: u64 = 256;
 
+/// Jobs with a diagonal of this or more aren't found in lanes.
+const LANES_END: u16 = 1 << 14;
+
 /// A valid file of the format, whose first frame has the rate.
 pub fn file(random: &mut Random, format: Format, first: Rate) -> Vec<u8> {
     let version = if format == Format::Capture { random.one_of(&[1, 2]) } else { 1 };
@@ -84,12 +87,15 @@ fn triangle(random: &mut Random, streams: usize, content: Content) -> Vec<u8> {
 
 fn diagonal(random: &mut Random, content: Content, is_wide: bool) -> u16 {
     match content {
-        Content::Sent if is_wide => random.between(64, 65535) as u16,
+        Content::Sent if is_wide => {
+            let any = random.between(64, 65535) as u16;
+            random.one_of(&[LANES_END - 1, LANES_END, 65535, any])
+        }
         Content::Sent => random.between(64, 255) as u16,
         Content::Ties => random.between(0, 8) as u16,
         Content::Extremes => {
             let any = random.draw() as u16;
-            random.one_of(&[0, 0, 1, 255, 65534, 65535, any])
+            random.one_of(&[0, 0, 1, 255, LANES_END - 1, LANES_END, 65534, 65535, any])
         }
     }
 }

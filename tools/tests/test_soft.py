@@ -138,12 +138,14 @@ def medians(frames):
 
 
 def test_the_gain_for_weights():
-    """Typical diagonals are 80, whatever the scale; no part leaves its field; a channel of zeros has no typical one."""
+    """Typical diagonals are 80, or 160 at rate 5/6, whatever the scale; no part leaves its field; a channel of zeros has no typical one."""
     rate, random = Rate(20, 27), np.random.default_rng(4)
     channel, received = (random.standard_normal((*shape, 2)) @ [1, 1j] for shape in ((56, 4, 4), (rate.symbols(9), 56, 4)))
     frames = [MeasuredFrame(20, 27, 9, scale * channel, scale * received, erased) for scale, erased in ((1e-6, None), (1.0, [1, 7]), (1e6, None))]
     frames.append(MeasuredFrame(20, 27, 9, channel[:, :2], received[..., :2]))  # two of four diagonals are 0
     assert medians(capture(frames, "soft").frames) == pytest.approx([80] * 4, abs=1)
+    tight = [MeasuredFrame(20, mcs, 9, channel[:, :, : mcs // 8 + 1], received[: Rate(20, mcs).symbols(9)]) for mcs in (28, 30, 31, 15, 7)]
+    assert medians(capture(tight, "soft").frames) == pytest.approx([80, 80, 160, 160, 160], abs=1)  # 160 in 64-QAM at rate 5/6
     lopsided = MeasuredFrame(20, 27, 9, channel * np.where(np.arange(56) == 20, 1e6, 1)[:, None, None], received)
     silent = MeasuredFrame(20, 27, 9, 0 * channel, 0 * received)
     assert (capture([lopsided, silent], "soft").gains == capture([lopsided, silent]).gains).all()

@@ -262,9 +262,19 @@ fn weight([zero, one]: [u64; 2]) -> i32 {
     if zero < one { -size } else { size }
 }
 
+/// The weight of a coordinate of two levels that depends on no other: (target + d)² - (target - d)², cut.
+#[inline(always)]
+fn of_two(target: i64, d: i64) -> i32 {
+    (4 * target * d).clamp(-(LARGEST as i64), LARGEST as i64) as i32
+}
+
 /// The weights of a coordinate that depends on no other.
 #[inline(always)]
 fn alone<const BITS: usize>(target: i64, d: i64, into: &mut [i32]) {
+    if BITS == 1 {
+        into[0] = of_two(target, d);
+        return;
+    }
     let (place, gap) = nearest::<BITS>(target, d);
     let side = usize::from(gap > 0);
     for (number, into) in into.iter_mut().enumerate().take(BITS) {
@@ -273,7 +283,7 @@ fn alone<const BITS: usize>(target: i64, d: i64, into: &mut [i32]) {
     }
 }
 
-#[inline(always)]
+#[inline(never)]
 fn walked<const OF_I: usize, const OF_Q: usize>(job: &Job, into: &mut [i32]) {
     let n = usize::from(job.streams);
     if n == 1 {
@@ -303,6 +313,7 @@ fn walked<const OF_I: usize, const OF_Q: usize>(job: &Job, into: &mut [i32]) {
 #[inline(never)]
 pub fn weights(job: &Job, bits: u32, into: &mut [i32]) {
     match bits {
+        1 if job.streams == 1 => into[0] = of_two(job.y[0].re.into(), job.d[0].into()),
         1 => walked::<1, 0>(job, into),
         2 => walked::<1, 1>(job, into),
         4 => walked::<2, 2>(job, into),

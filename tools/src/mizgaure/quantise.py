@@ -13,6 +13,7 @@ channel.
 from __future__ import annotations
 
 from dataclasses import dataclass
+from fractions import Fraction
 from functools import lru_cache
 from typing import Iterable, List, Optional, Sequence, Union
 
@@ -25,6 +26,7 @@ from .rates import Rate
 FOR_SOFT = "soft"  # a gain that fits weights
 BLOCK = 256  # symbols that are rotated at once
 SOFT_DIAGONAL = 80.0  # neighbouring points are then 160 apart, and a weight between them is 25600 of the 65535 at which it is cut
+SOFT_DIAGONAL_AT_5_6 = 160.0  # in 64-QAM at rate 5/6, where twice the gain loses no more, and costs less
 
 Gain = Optional[Union[float, str]]
 
@@ -123,7 +125,7 @@ def capture(frames: Iterable[MeasuredFrame], gain: Union[Gain, Sequence[Gain]] =
     gain : float, ``"soft"`` or a sequence of these, optional
         What each frame is multiplied with before it is rounded, one for all frames or one for each. By default the largest
         with which nothing of the frame leaves its field. With ``"soft"`` that at which the median of the diagonals of data
-        subcarriers is `SOFT_DIAGONAL`, which fits weights, or the largest where that is less.
+        subcarriers is `soft_diagonal` of the rate, which fits weights, or the largest where that is less.
     first : int
         The number of the first frame, for messages.
 
@@ -290,11 +292,16 @@ def _largest_gain(triangles: np.ndarray, samples: np.ndarray) -> float:
     return 1 / max(used) if max(used) > 0 else 1.0
 
 
+def soft_diagonal(rate: Rate) -> float:
+    """The median diagonal of a frame's data subcarriers that fits weights."""
+    return SOFT_DIAGONAL_AT_5_6 if rate.coding_rate == Fraction(5, 6) else SOFT_DIAGONAL
+
+
 def _soft_gain(rate: Rate, triangles: np.ndarray) -> float:
-    """The gain at which the median of the diagonals of data subcarriers is `SOFT_DIAGONAL`, of those that aren't 0."""
+    """The gain at which the median of the diagonals of data subcarriers is `soft_diagonal`, of those that aren't 0."""
     diagonals = _diagonal(triangles).real[~rate.is_pilot]
     heard = diagonals[diagonals > 0]
-    return SOFT_DIAGONAL / float(np.median(heard)) if heard.size else np.inf
+    return soft_diagonal(rate) / float(np.median(heard)) if heard.size else np.inf
 
 
 def _share(values: np.ndarray, limits) -> float:

@@ -37,7 +37,7 @@ from .formats import CaptureFrame, SentFrame, SymbolsFrame, read_htsy, write_htc
 from .inside import Inside, receiver
 from .measures import ErrorRates, FrameProportion, Proportion
 from .program import Radio
-from .quantise import SOFT_DIAGONAL, MeasuredFrame, capture
+from .quantise import MeasuredFrame, capture, soft_diagonal
 from .rates import Rate, check_length
 from .tables import rate_columns
 from .workers import Workers
@@ -615,8 +615,8 @@ class _Read:
 
 
 def _soft_gain(rate: Rate) -> float:
-    """A gain at which a channel of mean power has diagonals of some `SOFT_DIAGONAL`."""
-    return SOFT_DIAGONAL * rate.streams**0.5 / rate.normalising_factor
+    """A gain at which a channel of mean power has diagonals of some `soft_diagonal`."""
+    return soft_diagonal(rate) * rate.streams**0.5 / rate.normalising_factor
 
 
 def _octets(frames: Sequence[CaptureFrame]) -> bytes:
