@@ -3,8 +3,11 @@ ghost use Rattle.std.specs.Prelude.{◌≡◌, ◌+◌, ◌^◌, ◌<◌, ◌≤
 ghost use Rattle.ht_feed.specs.Items.{Numbered};
 ghost use Rattle.ht_lanes.specs.Lanes.{lane_jobs, whole_jobs};
 
+use ht_capture_blocks::InLanes;
 use ht_feed::{InFrame, Jobs, Shared};
 use ht_metric::{Job, Place};
+use ht_rate::Modulation;
+use ht_rounding::Labelled;
 use std::marker::Model;
 
 /// A block of one lane whose jobs have other numbers: those that they have among the jobs of all lanes. Contracts see
@@ -86,6 +89,12 @@ impl<B: InFrame> InFrame for LaneBlock<B> {
 
     fn head(&self) -> &B::Head {
         self.block.head()
+    }
+}
+
+impl<B: InLanes> InLanes for LaneBlock<B> {
+    fn labels(&self, modulation: Modulation, at: u16) -> Labelled {
+        self.block.labels(modulation, at)
     }
 }
 
