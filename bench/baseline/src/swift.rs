@@ -185,7 +185,13 @@ fn put_labels<const N: usize>(words: &[u32], into: &mut [u8]) {
 /// Bits of one word in every second place.
 fn spread(half: u32) -> u64 {
     let mut word = u64::from(half);
-    for (by, mask) in [(16, 0x0000_ffff_0000_ffff), (8, 0x00ff_00ff_00ff_00ff), (4, 0x0f0f_0f0f_0f0f_0f0f), (2, 0x3333_3333_3333_3333), (1, 0x5555_5555_5555_5555)] {
+    for (by, mask) in [
+        (16, 0x0000_ffff_0000_ffff),
+        (8, 0x00ff_00ff_00ff_00ff),
+        (4, 0x0f0f_0f0f_0f0f_0f0f),
+        (2, 0x3333_3333_3333_3333),
+        (1, 0x5555_5555_5555_5555),
+    ] {
         word = (word | word << by) & mask;
     }
     word
