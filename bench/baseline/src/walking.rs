@@ -364,16 +364,8 @@ mod tests {
         let mut random = Random::new(7);
         for (bits, i, q, most) in [(1, 2, 1, 4), (2, 2, 2, 4), (4, 4, 4, 3), (6, 8, 8, 2)] {
             for streams in 1..=most {
-                for (noise, is_small, family) in [
-                    (0, false, 0),
-                    (8, false, 0),
-                    (60, false, 0),
-                    (200, true, 0),
-                    (60, true, 1),
-                    (8, false, 2),
-                    (8, true, 3),
-                    (200, false, 4),
-                ] {
+                let families = [(0, false, 0), (8, false, 0), (60, false, 0), (200, true, 0), (60, true, 1), (8, false, 2), (8, true, 3), (200, false, 4)];
+                for (noise, is_small, family) in families {
                     for _ in 0..4 {
                         let mut job = made(&mut random, streams, i, q, noise, is_small);
                         match family {
