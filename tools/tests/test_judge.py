@@ -31,7 +31,7 @@ def kept(path):
     return reference, next(iter(read_answers(reference)))
 
 
-@pytest.mark.parametrize("path", vectors(".detect")[::5])
+@pytest.mark.parametrize("path", [p for p in vectors(".detect") if b"job" in p.values[0].read_bytes()][::5])
 def test_the_reference_is_the_same_as_itself(path):
     capture, text = path.with_suffix(".htcp"), path.read_bytes()
     found = judge(capture, text, reference=text)
