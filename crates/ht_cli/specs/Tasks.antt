@@ -23,7 +23,7 @@ use Rattle.ht_legacy_sim.specs.Passing.{passing as legacy_passing}
 use Rattle.ht_legacy_files.specs.CaptureFormats.{captures as legacy_captures}
 use Rattle.ht_legacy_rx.specs.Texts.{legacy_lines_of, legacy_text}
 use Rattle.ht_soft_rx.specs.Texts.{soft_lines_of, soft_rx_text}
-use Rattle.ht_several.specs.Bundles.{receiving}
+use Rattle.ht_many.specs.Bundles.{receiving}
 use Rattle.ht_rate.specs.declared.rates.Rate.{Rate}
 use Rattle.ht_demo.specs.declared.plan.Plan.{Plan}
 use Rattle.ht_demo.specs.Demos.{Demonstrates}

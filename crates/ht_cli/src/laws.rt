@@ -28,7 +28,7 @@ ghost use Rattle.ht_files.specs.Points.{symbols};
 ghost use Rattle.ht_files.specs.SymbolFiles.{symbols_file_of};
 ghost use Rattle.ht_sim.specs.Passing.{PassesTo, passing};
 ghost use Rattle.ht_bundles.specs.Formats.{bundles};
-ghost use Rattle.ht_several.specs.Bundles.{ReceivesTo, receiving};
+ghost use Rattle.ht_many.specs.Bundles.{ReceivesTo, receiving};
 ghost use Rattle.ht_legacy_files.specs.Formats.{frames as legacy_frames};
 ghost use Rattle.ht_legacy_files.specs.CaptureFormats.{captures as legacy_captures};
 ghost use Rattle.ht_legacy_sim.specs.Passing.{PassesTo as LegacyPassesTo, passing as legacy_passing};

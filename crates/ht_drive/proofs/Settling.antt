@@ -3,7 +3,7 @@ use Rattle.std.proofs.Common.{◌≡◌, ℕ, ◌+◌, ◌<◌, ◌≤◌, ◌++
 use Rattle.std.proofs.Common.{ap, ◌∙◌, sym, refl, arith, subst}
 use Rattle.std.specs.List.{flat_map}
 use Rattle.std.proofs.lemmas.List.Sums.{sum_by-append, sum_by-cons}
-use Rattle.ht_counts.specs.Counts.{SameCounts}
+use Rattle.ht_list.specs.Counts.{SameCounts}
 use Rattle.ht_metric.specs.Jobs.{JobView}
 use Rattle.ht_pool.specs.Gathering.{answered_by}
 use Rattle.ht_pool.specs.Members.{answers_of, answered_weight}

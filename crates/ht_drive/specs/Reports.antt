@@ -3,7 +3,7 @@ use Rattle.std.specs.Prelude.{◌≡◌, ◌+◌, ◌≤◌, ◌++◌, ◌∷◌
 use Rattle.std.specs.List.{All, flat_map}
 use Rattle.crossbeam_queue.specs.Passes.{view}
 use Rattle.ht_metric.specs.Jobs.{JobView}
-use Rattle.ht_counts.specs.Counts.{SameCounts}
+use Rattle.ht_list.specs.Counts.{SameCounts}
 use Rattle.ht_pool.specs.Pools.{IsEmptied, moved_on, taken_on}
 use Rattle.ht_pool.specs.Through.{first_of, through}
 use Rattle.ht_pool.specs.declared.hand.Hand.{Hand}

@@ -27,7 +27,7 @@ use Rattle.ht_legacy_rx.specs.Texts.{end_of_legacy, legacy_items, legacy_meaning
 use Rattle.ht_feed.specs.Items.{frames_of}
 use Rattle.ht_results.specs.Texts.{rx_text}
 use Rattle.ht_runs.specs.Formats.{IsWhole, fault_in, last_text}
-use Rattle.ht_several.specs.Bundles.{many_text, texts_from}
+use Rattle.ht_many.specs.Bundles.{many_text, texts_from}
 use Rattle.ht_text.specs.Lines.{capture_text}
 use Rattle.ht_library.specs.Sizes.{bundle_room, checks_room, frames_room, legacy_room}
 use Rattle.ht_library.proofs.CheckLines.{lines-long as check_lines-long, right-few}

@@ -4,7 +4,7 @@ use Rattle.ht_bundles.specs.Files.{AreCaptures, bundle_of}
 use Rattle.ht_capture.specs.Fields.{captures}
 use Rattle.ht_runs.specs.Filters.{Filter}
 use Rattle.ht_runs.specs.Formats.{IsWhole}
-use Rattle.ht_several.specs.Bundles.{many_text}
+use Rattle.ht_many.specs.Bundles.{many_text}
 
 -- a text of this size has room for the text of the octets, where these are a whole input
 abbrev pub Suffices : Filter → List ℕ → ℕ → Type 0

@@ -5,7 +5,7 @@ ghost use Rattle.ht_results.specs.JobTexts.{detect_text, lines_of};
 ghost use Rattle.ht_results.specs.Texts.{frame_lines_of, rx_text};
 ghost use Rattle.ht_soft_rx.specs.Texts.{soft_lines_of, soft_rx_text};
 ghost use Rattle.ht_legacy_rx.specs.Texts.{legacy_lines_of, legacy_text};
-ghost use Rattle.ht_several.specs.Bundles.{receiving};
+ghost use Rattle.ht_many.specs.Bundles.{receiving};
 ghost use Rattle.ht_runs.specs.Formats.{filter};
 ghost use Rattle.ht_library.specs.Written.{Answers, Ran, by_conversion, by_filter};
 

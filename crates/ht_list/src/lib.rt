@@ -20,6 +20,9 @@
 //! ```
 //!
 //! `symbol.points.as_slice()` lends the items, and `symbol.points.into_vec()` gives the vector back.
+//!
+//! Where workers take jobs in any order, what is known of two lists is often that they have the same members, each as often.
+//! `SameCounts` of `specs/Counts.antt` is that word, for all crates that cite it.
 #![tactic(auto)]
 
 mod list;

@@ -12,7 +12,7 @@ use Rattle.ht_machine.specs.declared.event.Event.TheVariants.{Issue, Push, Pop, 
 use Rattle.ht_machine.specs.Machine.{MachineView, IsEnabled, after, hand, deque, hit_of, taken, without}
 use Rattle.std.specs.List.{All}
 use Rattle.std.proofs.lemmas.List.Elements.{All-nil, All-cons, All-append, All-set, All-drop, All-weaker}
-use Rattle.ht_counts.specs.Counts.{SameCounts}
+use Rattle.ht_list.specs.Counts.{SameCounts}
 use Rattle.ht_machine.specs.Facts.{IsIssued, IsMachine, jobs_of, places}
 use Rattle.ht_machine.proofs.Lists.{some_is, all_at, all_front, all_option, option_weaker, all_without, all_hit_of}
 use Rattle.ht_machine.proofs.Lists.{issued_more, issued_last, get_more, take_next, jobs_append, jobs_length, found_number}

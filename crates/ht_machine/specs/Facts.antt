@@ -2,7 +2,7 @@
 use Rattle.std.specs.Prelude.{◌≡◌, ◌+◌, ◌<◌, ◌≤◌, ◌==◌, ℕ, List, ◌++◌, length, map, take, slice_get, IfSome, Some, Bool, true, false}
 use Rattle.std.specs.List.{All, count_by, flat_map}
 use Rattle.std.specs.Option.{option_to_list}
-use Rattle.ht_counts.specs.Counts.{SameCounts}
+use Rattle.ht_list.specs.Counts.{SameCounts}
 use Rattle.ht_metric.specs.Jobs.{JobView}
 use Rattle.ht_metric.specs.declared.hit.Hit.{Hit}
 use Rattle.ht_machine.specs.declared.event.Event.{Event}

@@ -28,12 +28,12 @@ use Rattle.ht_lanes.proofs.OneLane.{past_both, some_of}
 use Rattle.ht_fields.proofs.Putting.{on_err_then}
 use Rattle.ht_runs.proofs.Outcomes.{told_nothing}
 use Rattle.ht_capture.specs.Fields.{captures}
-use Rattle.ht_several.specs.declared.many_end.ManyEnd.{ManyEnd}
-use Rattle.ht_several.specs.Alone.{Heard, PutsPieces}
-use Rattle.ht_several.specs.Several.{AreLater, Devices, EachEnds, EachHeard, EachInPart, answer_at, devices}
-use Rattle.ht_several.specs.LastLines.{EachFinishes, EachMayFinish, FinishesEach}
-use Rattle.ht_several.proofs.LastLines.{each_ends, each_in_part, last_later}
-use Rattle.ht_several.proofs.Ending.{heard_part}
+use Rattle.ht_many.specs.declared.many_end.ManyEnd.{ManyEnd}
+use Rattle.ht_many.specs.Alone.{Heard, PutsPieces}
+use Rattle.ht_many.specs.Several.{AreLater, Devices, EachEnds, EachHeard, EachInPart, answer_at, devices}
+use Rattle.ht_many.specs.LastLines.{EachFinishes, EachMayFinish, FinishesEach}
+use Rattle.ht_many.proofs.LastLines.{each_ends, each_in_part, last_later}
+use Rattle.ht_many.proofs.Ending.{heard_part}
 use Rattle.ht_many.specs.CaptureLanes.{AreNew, AreOpen, IsNew, Lane, LaneLeads, LanesLead, lane_answer, lane_due, lane_finished, lane_over, lane_rests}
 use Rattle.ht_many.specs.CaptureLanes.{lane_seen, reader_at, reader_means}
 use Rattle.ht_many.specs.KeptFrames.{lines_left}

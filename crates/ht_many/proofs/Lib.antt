@@ -1,4 +1,9 @@
-pub mod Parts
-pub mod Opened
+mod Worked
 pub mod CaptureEnds
+pub mod Converting
+pub mod Ending
+pub mod LastLines
+pub mod Opened
+pub mod Parts
+pub mod Texts
 pub mod TextsApart

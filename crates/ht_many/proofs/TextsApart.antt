@@ -3,7 +3,7 @@ use Rattle.std.proofs.Common.{◌≡◌, ◌∙◌, ℕ, ◌<◌, ◌++◌, List
 use Rattle.std.proofs.lemmas.List.{ext_get_or, get_or-map, length-map}
 use Rattle.ht_io.specs.Writing.{Growing}
 use Rattle.ht_results.specs.Texts.{rx_text}
-use Rattle.ht_several.proofs.Texts.{held_by, nothing_held, written_back}
+use Rattle.ht_many.proofs.Texts.{held_by, nothing_held, written_back}
 use Rattle.ht_many.specs.declared.apart.Apart.{Apart}
 use Rattle.ht_many.specs.Apart.{AreReceived, HoldsText, captures_in, held_all, texts_in}
 

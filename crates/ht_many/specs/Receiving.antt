@@ -3,11 +3,11 @@ use Rattle.std.specs.Prelude.{ℕ, Result, IfOk, OnErr}
 use Rattle.ht_runs.specs.Converted.{Converted}
 use Rattle.ht_runs.specs.Filters.{SaysNothing}
 use Rattle.ht_runs.specs.declared.faults.RunFault.{RunFault}
-use Rattle.ht_several.specs.Bundles.{receiving}
+use Rattle.ht_many.specs.Bundles.{receiving}
 use Rattle.std.specs.Global.{Vec}
 use Rattle.ht_io.specs.Devices.{Device}
-use Rattle.ht_several.specs.declared.many_end.ManyEnd.{ManyEnd}
-use Rattle.ht_several.specs.Several.{AreLater, Devices, EachEnds, EachInPart}
+use Rattle.ht_many.specs.declared.many_end.ManyEnd.{ManyEnd}
+use Rattle.ht_many.specs.Several.{AreLater, Devices, EachEnds, EachInPart}
 
 -- The sources and the sinks of the captures, how contracts see each of them, and what the call answered. `a` is before the
 -- call, and `b` after it.

@@ -3,18 +3,19 @@ ghost use Rattle.std.specs.Prelude.{◌≡◌, length, map, IfOk};
 ghost use Rattle.ht_feed.specs.Limits.{IsWindowSize};
 ghost use Rattle.ht_io.specs.Writing.{Growing};
 ghost use Rattle.ht_results.specs.Texts.{rx_text};
-ghost use Rattle.ht_several.specs.Several.{devices};
+ghost use Rattle.ht_many.specs.Several.{devices};
 ghost use Rattle.ht_many.specs.CaptureLanes.{AreOpen};
 ghost use Rattle.ht_many.specs.Receiving.{ReceivesEach};
 
+use crate::bundle::{have_text, sinks_of, sources_of};
 use crate::capture_lane::{CaptureLane, open_lanes};
 use crate::ending::end_all;
+use crate::many_end::ManyEnd;
 use ht_bundles::Bundled;
 use ht_feed::Gate;
 use ht_io::{GrowSink, Sink, Source};
 use ht_lanes::drive_lanes_alone;
 use ht_rx::LaneWork;
-use ht_several::{ManyEnd, have_text, sinks_of, sources_of};
 use std::alloc::{AllocError, Global};
 
 /// This thread receives captures, and runs every job between the two calls of the gate. At most `window` jobs are due at a

@@ -1,14 +1,15 @@
 //! How captures ended whose lanes are over.
 ghost use Rattle.std.specs.Prelude.{◌≡◌, length, map};
 ghost use Rattle.ht_lanes.specs.Lanes.{AreOver};
-ghost use Rattle.ht_several.specs.LastLines.{FinishesEach};
+ghost use Rattle.ht_many.specs.LastLines.{FinishesEach};
 ghost use Rattle.ht_many.specs.CaptureLanes.{lane_answer, lane_over};
 
 use crate::capture_lane::answers_of;
+use crate::finishing::finish;
+use crate::many_end::ManyEnd;
 use ht_capture_blocks::CaptureReader;
 use ht_io::Sink;
 use ht_lanes::DeskLane;
-use ht_several::{ManyEnd, finish};
 use std::alloc::{AllocError, Global};
 
 /// Puts the last line of each capture, and tells how it ended, once all lanes are over. The only error is lack of

@@ -3,7 +3,7 @@ use Rattle.std.proofs.Common.{◌≡◌, ℕ, List, [], ◌∷◌, ◌++◌, len
 use Rattle.std.specs.List.{sum_by}
 use Rattle.std.proofs.lemmas.List.{length-append, length-map}
 use Rattle.std.proofs.lemmas.List.Sums.{sum_by-append}
-use Rattle.ht_counts.specs.Counts.{SameCounts}
+use Rattle.ht_list.specs.Counts.{SameCounts}
 use Rattle.atomic_table.specs.Seated.{TableId}
 use Rattle.ht_pool.specs.Seats.{DequeId, SeatView, OwnView, fresh_seat, fresh_own, popped_from, deques_at, taken_at, Steals}
 use Rattle.ht_pool.proofs.Lists.{written_back}

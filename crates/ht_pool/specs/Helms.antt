@@ -1,7 +1,7 @@
 -- What is seen of the caller's end of a pool.
 use Rattle.std.specs.Prelude.{◌≡◌, ◌+◌, ◌≤◌, ℕ, List, [], ◌∷◌, ◌++◌, length}
 use Rattle.atomic_table.specs.Seated.{TableId}
-use Rattle.ht_counts.specs.Counts.{SameCounts}
+use Rattle.ht_list.specs.Counts.{SameCounts}
 use Rattle.ht_pool.specs.Seats.{DequeId, SeatView, OwnView, deques_at, taken_at}
 
 -- the caller's end of a pool

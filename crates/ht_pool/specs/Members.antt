@@ -5,7 +5,7 @@ use Rattle.atomic_table.specs.Seated.{TableId}
 use Rattle.crossbeam_queue.specs.Passes.{Pass, view as answer_view}
 use Rattle.crossbeam_queue.specs.declared.array_queue.Doing.{Doing}
 use Rattle.crossbeam_queue.specs.declared.array_queue.Slotted.{Slotted}
-use Rattle.ht_counts.specs.Counts.{SameCounts}
+use Rattle.ht_list.specs.Counts.{SameCounts}
 use Rattle.ht_pool.specs.Seats.{DequeId, SeatView, OwnView, deques_at, taken_at}
 use Rattle.ht_pool.specs.declared.hand.Hand.{Hand}
 use Rattle.ht_pool.specs.declared.member.Member.{Member}

@@ -2,7 +2,7 @@
 use Rattle.std.specs.Prelude.{◌≡◌, ◌≤◌, ℕ, List, [], ◌∷◌, ◌++◌, length, map, sum, drop, vec_len, vec_capacity}
 use Rattle.std.specs.List.{All, flat_map, sum_by}
 use Rattle.crossbeam_queue.specs.Passes.{view as answer_view}
-use Rattle.ht_counts.specs.Counts.{SameCounts}
+use Rattle.ht_list.specs.Counts.{SameCounts}
 use Rattle.ht_pool.specs.Through.{through, first_of}
 use Rattle.ht_pool.specs.Members.{berth_of, berths, answered_weight, HasYetToServe}
 use Rattle.ht_pool.specs.Gathering.{answered_by}

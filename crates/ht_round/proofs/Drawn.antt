@@ -4,7 +4,7 @@ use Rattle.std.proofs.lemmas.Nat.{mod_below}
 use Rattle.ht_rate.specs.declared.rates.Rate.{Rate}
 use Rattle.ht_tx.specs.Frames.{FrameView}
 use Rattle.ht_files.specs.Files.{AreFrames, IsFrame}
-use Rattle.ht_return.specs.Returns.{AreOctets}
+use Rattle.ht_round.specs.Returns.{AreOctets}
 use Rattle.ht_sim.specs.Samples.{frames_drawn, octet_drawn, sample_frame_drawn}
 use Rattle.ht_sim.specs.Words.{first, next, word}
 use Rattle.ht_sim.proofs.Drawing.{All-several, length-several}

@@ -27,8 +27,8 @@ use Rattle.ht_inverse.specs.declared.outcome.Outcome.TheVariants.{Octets}
 use Rattle.ht_tx.specs.Frames.{FrameView}
 use Rattle.ht_tx.specs.Symbols.{IsSymbols, SymbolsView}
 use Rattle.ht_tx.specs.Transmitted.{IsTransmitted}
-use Rattle.ht_return.specs.Returns.{AreOctets}
-use Rattle.ht_return.proofs.Back.{sent_comes_back}
+use Rattle.ht_round.specs.Returns.{AreOctets}
+use Rattle.ht_round.proofs.Back.{sent_comes_back}
 use Rattle.ht_sim.specs.Channel.{symbols_mixed}
 use Rattle.ht_results.specs.declared.frame_result.FrameResult.{FrameResult}
 use Rattle.ht_results.specs.Labels.{frame_labels}

@@ -30,7 +30,7 @@ use Rattle.ht_tx.specs.Frames.{FrameView}
 use Rattle.ht_tx.specs.Symbols.{SymbolsView, point_at}
 use Rattle.ht_tx.specs.Transmitted.{Carries, IsLabelOf, IsPointOf, IsTransmitted}
 use Rattle.ht_tx.proofs.Places.{pair-below}
-use Rattle.ht_return.specs.Returns.{AreLabelsOf}
+use Rattle.ht_round.specs.Returns.{AreLabelsOf}
 use Rattle.ht_results.specs.Labels.{carrier_labels, frame_label, frame_labels, label_in, stands_at, symbol_labels}
 use Rattle.ht_results.proofs.Among.{Among, among_behind, among_front}
 use Rattle.ht_results.proofs.Blocks.{block_at}

@@ -1,12 +1,14 @@
-pub mod Points
-pub mod Mixed
+pub mod Back
+pub mod Drawn
+pub mod Frame
 pub mod Jobs
 pub mod Labels
-pub mod Small
-pub mod Frame
+pub mod Mixed
+pub mod Octets
+pub mod Parts
+pub mod Passed
+pub mod Points
 pub mod Round
 pub mod Simulated
-pub mod Passed
-pub mod Drawn
-pub mod Octets
+pub mod Small
 mod Worked

@@ -8,7 +8,7 @@ use Rattle.ht_capture_laws.proofs.Lists.{bytes_behind, bytes_front}
 use Rattle.ht_tx.specs.Frames.{FrameView}
 use Rattle.ht_files.specs.Files.{frame_octets, frames_file_of}
 use Rattle.ht_files.specs.Frames.{frames_magic}
-use Rattle.ht_return.specs.Returns.{AreOctets}
+use Rattle.ht_round.specs.Returns.{AreOctets}
 use Rattle.ht_round.specs.Exact.{HoldOctets}
 
 frame_bytes : (f : FrameView) → AreBytes (frame_octets f) → AreOctets f.octets

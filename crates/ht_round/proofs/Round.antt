@@ -29,7 +29,7 @@ use Rattle.ht_tx.specs.Frames.{FrameView}
 use Rattle.ht_tx.specs.Symbols.{SymbolsView}
 use Rattle.ht_tx.specs.Transmitted.{AreTransmitted}
 use Rattle.ht_files.specs.Files.{AreFrames, IsFrame}
-use Rattle.ht_return.specs.Returns.{AreOctets}
+use Rattle.ht_round.specs.Returns.{AreOctets}
 use Rattle.ht_results.specs.declared.frame_result.FrameResult.{FrameResult}
 use Rattle.ht_results.specs.Results.{frame_result, results_of}
 use Rattle.ht_results.specs.Texts.{frame_lines_of, frames_of, last_line, last_of, result_lines, rx_text}

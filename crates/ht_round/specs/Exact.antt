@@ -10,7 +10,7 @@ use Rattle.ht_files.specs.Files.{AreFrames}
 use Rattle.ht_tx.specs.Frames.{FrameView}
 use Rattle.ht_tx.specs.Symbols.{SymbolsView}
 use Rattle.ht_tx.specs.Transmitted.{AreTransmitted}
-use Rattle.ht_return.specs.Returns.{AreOctets}
+use Rattle.ht_round.specs.Returns.{AreOctets}
 use Rattle.ht_sim.specs.Channel.{symbols_mixed}
 
 -- the frames have octets: numbers below 256

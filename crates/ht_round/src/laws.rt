@@ -1,10 +1,13 @@
 //! What follows from the definitions of sending, receiving and decoding. The functions here do nothing: their contracts
 //! are laws.
-ghost use Rattle.std.specs.Prelude.{◌≡◌, ◌⊎◌, ◌≤◌, ℕ, List};
+ghost use Rattle.std.specs.Prelude.{◌≡◌, ◌⊎◌, ◌≤◌, ℕ, List, length};
 ghost use Rattle.ht_rate.specs.declared.rates.Rate.{Rate};
+ghost use Rattle.ht_scramble.specs.Sequence.{IsSeed};
 ghost use Rattle.ht_tx.specs.Frames.{FrameView};
 ghost use Rattle.ht_tx.specs.Symbols.{SymbolsView};
 ghost use Rattle.ht_tx.specs.Transmitted.{AreTransmitted};
+ghost use Rattle.ht_inverse.specs.declared.outcome.Outcome.TheVariants.{Octets};
+ghost use Rattle.ht_inverse.specs.Decoding.{decoded_frame};
 ghost use Rattle.ht_fields.specs.Tests.{AreBytes};
 ghost use Rattle.ht_files.specs.Files.{AreFrames, frames_file_of};
 ghost use Rattle.ht_files.specs.SymbolFiles.{symbols_file_of};
@@ -16,8 +19,15 @@ ghost use Rattle.ht_results.specs.Texts.{rx_text};
 ghost use Rattle.ht_sim.specs.Channel.{captures_of};
 ghost use Rattle.ht_sim.specs.Passing.{PassesTo};
 ghost use Rattle.ht_sim.specs.Samples.{frames_drawn};
+ghost use Rattle.ht_round.specs.Returns.{AreLabelsOf, AreOctets};
 ghost use Rattle.ht_round.specs.Exact.{AreExact, AreWrittenAgain, ArriveExactly, HoldOctets};
 ghost use Rattle.ht_round.specs.Returned.{returned_results, returned_text};
+
+/// The labels that are sent of a frame are decoded to its octets, with no place that differs, at every rate and with any seed.
+pub fn sent_comes_back()
+    ensures { (f : FrameView) (labels : List ℕ) → IsSeed f.seed → AreOctets f.octets → AreLabelsOf f labels
+        → decoded_frame f.rate (length f.octets) 0 labels ≡ record { outcome = Octets f.octets; code = 0 } }
+{}
 
 /// Frames that are sent, and received exactly, come back: each frame's result is its own octets, with sums of 0, and the
 /// text has a line of it for each frame and then the number of frames. This holds for a capture of version 1, and for

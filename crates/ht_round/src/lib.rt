@@ -6,8 +6,9 @@
 //! octets, at distance 0, and no bit of a codeword differs.
 //!
 //! They rest on two facts. A triangle without a 0 on its diagonal makes different samples of different vectors, so the
-//! vector that was sent is the only one at distance 0 (`ht_metric`). And the labels of a frame are decoded to its octets
-//! (`ht_return`).
+//! vector that was sent is the only one at distance 0 (`ht_metric`). And the labels that are sent of a frame are decoded to its
+//! octets, and no place differs, at all 64 rates ([`laws::sent_comes_back`]): `ht_tx` says what they are, by where the coded
+//! bits of its encoders land, and `ht_inverse` what labels are decoded to.
 //!
 //! `specs/Exact.antt` says what it means to be received exactly, and `specs/Returned.antt` which results and text frames
 //! have that come back. `proofs/Worked.antt` works out the text of two frames, and a symbol of two streams: where 1 and -1 are sent over

@@ -19,7 +19,7 @@ use Rattle.ht_receive.specs.Endings.{MeansFrames}
 use Rattle.ht_legacy_files.specs.CaptureFormats.{captures as legacy_captures}
 use Rattle.ht_legacy_rx.specs.Texts.{legacy_items, legacy_lines_of, legacy_text}
 use Rattle.ht_soft_rx.specs.Texts.{soft_lines_of, soft_rx_text}
-use Rattle.ht_several.specs.Bundles.{receiving}
+use Rattle.ht_many.specs.Bundles.{receiving}
 use Rattle.ht_cli.proofs.Making.{done_is_not, makes}
 use Rattle.ht_cli.proofs.Texts.{detect_ends, legacy_ends, rx_ends, soft_ends}
 use Rattle.ht_cli.proofs.carry_out.Goals as goal

@@ -1,4 +1,4 @@
-use Rattle.ht_several.specs.Bundles.{receiving}
+use Rattle.ht_many.specs.Bundles.{receiving}
 use Rattle.ht_cli.proofs.Saying.{output_done, output_known, output_memory, output_part, output_refused}
 use Rattle.ht_cli.proofs.laws.clauses_of_many.Goals as goal
 

@@ -1,7 +1,7 @@
 use Rattle.std.proofs.Common.{◌≤◌, ◌*◌, ℕ, List, length, subst, sym, arith}
 use Rattle.std.proofs.Math.Facts.{Fits-lt-pow}
 use Rattle.ht_fields.specs.Tests.{AreBytes}
-use Rattle.ht_several.specs.Bundles.{many_text}
+use Rattle.ht_many.specs.Bundles.{many_text}
 use Rattle.ht_library.proofs.MoreSuffices.{many-room}
 use Rattle.ht_library.proofs.sizes.mizgaure_many_size.Goals as goal
 

@@ -1,6 +1,6 @@
 use Rattle.std.proofs.Common.{◌≡◌, ◌++◌, length, map, take, drop, rules}
 use Rattle.ht_results.specs.Texts.{rx_text}
-use Rattle.ht_several.proofs.Texts.{held_by}
+use Rattle.ht_many.proofs.Texts.{held_by}
 use Rattle.ht_many.specs.Apart.{held_all, texts_in}
 use Rattle.ht_many.proofs.CaptureEnds.{then_ok}
 use Rattle.ht_many.proofs.TextsApart.{all_texts}

@@ -4,9 +4,9 @@ use Rattle.ht_runs.specs.Filters.{WithinOutput}
 use Rattle.ht_runs.proofs.Converting.{not_read}
 use Rattle.ht_results.specs.Texts.{rx_text}
 use Rattle.ht_bundles.specs.Formats.{bundles}
-use Rattle.ht_several.specs.Bundles.{ReceivesTo}
-use Rattle.ht_several.proofs.Converting.{converts}
-use Rattle.ht_several.proofs.Texts.{held_by}
+use Rattle.ht_many.specs.Bundles.{ReceivesTo}
+use Rattle.ht_many.proofs.Converting.{converts}
+use Rattle.ht_many.proofs.Texts.{held_by}
 use Rattle.ht_many.proofs.calls.many_bundle_alone.Goals as goal
 
 pub returns-in_err-captures-clause-converts : goal.returns-in_err-captures-clause-converts

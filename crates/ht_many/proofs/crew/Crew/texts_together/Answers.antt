@@ -1,5 +1,5 @@
 use Rattle.std.proofs.Common.{◌≡◌, length, rules}
-use Rattle.ht_several.proofs.Texts.{all_put}
+use Rattle.ht_many.proofs.Texts.{all_put}
 use Rattle.ht_many.proofs.crew.Crew.texts_together.Goals as goal
 
 pub returns-then-have_text : goal.returns-then-have_text

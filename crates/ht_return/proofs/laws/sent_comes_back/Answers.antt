@@ -1,5 +1,0 @@
-use Rattle.ht_return.proofs.Back.{sent_comes_back}
-use Rattle.ht_return.proofs.laws.sent_comes_back.Goals as goal
-
-pub returns : goal.returns
-returns c = sent_comes_back

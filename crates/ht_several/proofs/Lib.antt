@@ -1,5 +1,0 @@
-pub mod Ending
-pub mod LastLines
-pub mod Texts
-pub mod Converting
-mod Worked

@@ -1,8 +1,0 @@
-use Rattle.std.proofs.Common.{◌<◌, ℕ, get_or}
-use Rattle.ht_several.specs.declared.many_end.ManyEnd.TheVariants.{Read}
-use Rattle.ht_several.specs.Alone.{HasText}
-use Rattle.ht_several.proofs.bundle.have_text.Given as goal
-
--- the first ends have their texts
-abbrev pub invariant-loop-at : goal.invariant-loop-at
-invariant-loop-at l = (k : ℕ) → k < l.at → HasText (get_or l.ends k Read)

@@ -1,4 +1,0 @@
-pub mod Alone
-pub mod Several
-pub mod LastLines
-pub mod Bundles
