@@ -1,5 +1,5 @@
 -- Labels by lanes.
-use Rattle.std.specs.Prelude.{◌≡◌, ℕ, ◌+◌, ◌%◌, ◌<◌, List, [], ◌∷◌, Some, length, map, slice_index, take, unwrap_or}
+use Rattle.std.specs.Prelude.{◌≡◌, ℕ, ◌+◌, ◌%◌, ◌<◌, List, [], ◌∷◌, Option, Some, IfSome, length, map, slice_get, slice_index, take, unwrap_or}
 use Rattle.std.specs.Int.{cast_signed, w32}
 use Rattle.ht_map.specs.Gray.{Axis, bits_at, joined, no_bits, one_bit, two_bits, three_bits}
 use Rattle.ht_pam.specs.declared.point.Point.{Point}
@@ -54,6 +54,18 @@ labels_in r k =
 pub record IsLabelled (label : Point → ℕ) (r : Labelled) (k : ℕ) (job : JobView) : Type 0 where
   pub distance : slice_index r.distance k ≡ (near job).distance
   pub labels : map label (near job).vector ≡ labels_in r k
+
+-- where there is such a job, and lane k is sure, it has the job's distance and labels
+abbrev pub IsLabelledIn : (Point → ℕ) → Labelled → ℕ → Option JobView → Type 0
+IsLabelledIn label r k job = IfSome job (λ j. 0 < slice_index r.sure k → IsLabelled label r k j)
+
+-- each lane that is sure has the distance and the labels of its job: lane 0 of the one that has so many others before it, and so on
+abbrev pub AreLabelledFrom : (Point → ℕ) → List JobView → ℕ → Labelled → Type 0
+AreLabelledFrom label jobs at r = (k : ℕ) → k < 8 → IsLabelledIn label r k (slice_get jobs (at + k))
+
+-- no lane is sure
+abbrev pub IsUnsure : Labelled → Type 0
+IsUnsure r = (k : ℕ) → k < 8 → slice_index r.sure k ≡ 0
 
 -- lane k has a job where it says so
 abbrev pub HasJob : Levels → Levels → EightLanes → ℕ → ℕ → JobView → Type 0

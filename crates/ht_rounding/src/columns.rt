@@ -1,12 +1,12 @@
 //! The channels of a frame's subcarriers as columns of words, out of which lanes are loaded.
-ghost use Rattle.std.specs.Prelude.{◌≡◌, ◌+◌, ◌<◌, ◌≤◌, ◌++◌, ◌∷◌, [], ℕ, List, length, slice_index, slice_index_or, unwrap_or, IfOk, OnOk};
+ghost use Rattle.std.specs.Prelude.{◌≡◌, ◌≢◌, ◌+◌, ◌<◌, ◌≤◌, ◌++◌, ◌∷◌, [], ℕ, List, length, slice_index, slice_index_or, unwrap_or, IfOk, OnOk};
 ghost use Rattle.ht_map.specs.Gray.{label_of};
 ghost use Rattle.ht_metric.specs.Jobs.{JobView};
 ghost use Rattle.ht_rounding.specs.declared.loading.Part.TheVariants.{Diagonal, EntryRe, EntryIm};
 ghost use Rattle.ht_rounding.specs.Columns.{AreColumns, AreEntries, AreRows, EntriesReach, HasLeg, HasLegs, HasSamples, IsColumn};
 ghost use Rattle.ht_rounding.specs.Columns.{IsLikePlain, Reaches, RowReaches};
 ghost use Rattle.ht_rounding.specs.InLanes.{IsSmall};
-ghost use Rattle.ht_rounding.specs.Labels.{HasJob, IsLabelled, i_levels, q_levels};
+ghost use Rattle.ht_rounding.specs.Labels.{HasJob, IsLabelled, IsUnsure, i_levels, q_levels};
 ghost use Rattle.ht_rounding.specs.Loading.{no_job};
 ghost use Rattle.ht_rounding.specs.Proposals.{AreSmall};
 
@@ -154,7 +154,8 @@ fn part_lanes(column: &[u32], streams: u8, least: u8, at: usize) -> u32x8
     u32x8::from_slice(&column[at..])
 }
 
-// The same of both parts of an entry.
+// Both parts of an entry on eight subcarriers, from the one on that has `at` others before it; 0 where there are fewer streams
+// than have the entry.
 #[inline(always)]
 fn entry_lanes(entries: &EntryColumns, streams: u8, least: u8, at: usize) -> Parts
     requires { least ≤ streams → EntriesReach (at + 8) entries.now }
@@ -233,7 +234,8 @@ fn labels_of(columns: &Columns, streams: u8, at: usize, samples: &Samples) -> La
     label_lanes(columns.modulation, streams, &eight)
 }
 
-// The same, with code of its own for each number of streams.
+// The labels of eight subcarriers, from the one on that has `at` others before it, on which this was received. There is code of
+// its own for each number of streams.
 fn labels_by(columns: &Columns, at: usize, samples: &Samples) -> Labelled
     requires { Reaches (at + 8) columns.now }
     ensures streams { result.streams ≡ columns.now.streams }
@@ -293,7 +295,9 @@ impl Columns {
     }
 
     /// The labels of what was sent on eight subcarriers, from the one on that has `at` others before it, and the squared
-    /// distances, in the lanes that are sure. Where the frame's modulation is another one, none is.
+    /// distances, in the lanes that are sure (IEEE Std 802.11-2012, clause 20.3.11.9). `samples` is what was received on them.
+    /// Where the frame's modulation is another one, no lane is sure. Else no clause tells which lanes are: a body that is never
+    /// sure would be proved too, and only be slow.
     pub fn labels(&self, modulation: Modulation, at: usize, samples: &Samples) -> Labelled
         requires { Reaches (at + 8) self.now }
         ensures some { 1 ≤ result.streams }
@@ -301,6 +305,7 @@ impl Columns {
         ensures labels { (jobs : List JobView) (k : ℕ) (job : JobView) → AreColumns jobs self.now → at + 8 ≤ length jobs → k < 8
             → IsLikePlain self.now (slice_index_or jobs (at + k) no_job) job → HasSamples samples.now k job.system → 0 < slice_index result.sure k
             → IsLabelled (λ p. unwrap_or (label_of modulation p) 0) result k job }
+        ensures other { self.now.modulation ≢ modulation → IsUnsure result }
     {
         if self.modulation != modulation {
             return unsure(self.streams);

@@ -3,7 +3,7 @@ ghost use Rattle.std.specs.Prelude.{◌≡◌, ◌<◌, ◌≤◌, ℕ, true, le
 ghost use Rattle.ht_map.specs.Gray.{label_of};
 ghost use Rattle.ht_metric.specs.Jobs.{JobView};
 ghost use Rattle.ht_rounding.specs.InLanes.{IsSmall};
-ghost use Rattle.ht_rounding.specs.Labels.{HasJob, IsLabelled, i_levels, label_by, q_levels};
+ghost use Rattle.ht_rounding.specs.Labels.{HasJob, IsLabelled, IsUnsure, i_levels, label_by, q_levels};
 ghost use Rattle.ht_rounding.specs.Loading.{HaveStreams, IsPlain, no_job};
 
 use crate::block::{has_small_diagonals, have_streams, ladder_of};
@@ -68,7 +68,7 @@ fn label_one(i: Levels, q: Levels, eight: &Eight) -> Labelled
     }
 }
 
-// The same of two streams.
+// The labels of eight jobs of two streams.
 #[inline(always)]
 fn label_two(i: Levels, q: Levels, eight: &Eight) -> Labelled
     requires { IsSmall eight.now.channel }
@@ -89,7 +89,7 @@ fn label_two(i: Levels, q: Levels, eight: &Eight) -> Labelled
     }
 }
 
-// The same of three streams.
+// The labels of eight jobs of three streams.
 #[inline(always)]
 fn label_three(i: Levels, q: Levels, eight: &Eight) -> Labelled
     requires { IsSmall eight.now.channel }
@@ -110,7 +110,7 @@ fn label_three(i: Levels, q: Levels, eight: &Eight) -> Labelled
     }
 }
 
-// The same of four streams.
+// The labels of eight jobs of four streams.
 #[inline(always)]
 fn label_four(i: Levels, q: Levels, eight: &Eight) -> Labelled
     requires { IsSmall eight.now.channel }
@@ -212,7 +212,7 @@ pub(crate) fn plainness(i: Levels, q: Levels, streams: u8, job: &Job) -> u32
     }
 }
 
-// The same of eight jobs.
+// In lane k, 1 where a lane can answer job k, whose constellations have all these levels, and 0 elsewhere.
 #[inline(always)]
 fn plain_lanes(i: Levels, q: Levels, streams: u8, jobs: &[Job]) -> u32x8
     requires jobs { length jobs.now ≡ 8 }
@@ -242,7 +242,7 @@ fn gathered(i: Levels, q: Levels, streams: u8, jobs: &[Job]) -> Eight
     }
 }
 
-// The same, with code of its own for each number of streams.
+// Eight jobs of so many streams, with code of its own for each number of streams.
 #[inline(always)]
 fn gathered_by(i: Levels, q: Levels, streams: u8, jobs: &[Job]) -> Eight
     requires jobs { length jobs.now ≡ 8 }
@@ -265,7 +265,7 @@ fn gathered_by(i: Levels, q: Levels, streams: u8, jobs: &[Job]) -> Eight
 // What lanes say where none is sure.
 pub(crate) fn unsure(streams: u8) -> Labelled
     ensures streams { result.streams ≡ streams }
-    ensures sure { (k : ℕ) → k < 8 → slice_index result.sure k ≡ 0 }
+    ensures sure { IsUnsure result }
 {
     let nothing = [0u32; 8];
     Labelled {

@@ -26,6 +26,7 @@ pub use block::find_eight;
 pub use columns::Columns;
 pub use eight::{Eight, Labelled, label_eight, label_lanes};
 pub use levels::Levels;
+pub use loading::word;
 pub use only::find_only;
 pub use rows::{Parts, Reached};
 pub use streams::{

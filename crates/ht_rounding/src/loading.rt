@@ -26,9 +26,9 @@ pub(crate) enum Part {
     EntryIm(u8),
 }
 
-// A number with a sign as a word.
+/// A number with a sign as a word: it stands modulo 2^32, as in each lane.
 #[inline(always)]
-fn word(number: i32) -> u32
+pub fn word(number: i32) -> u32
     ensures { IsWord result number }
 {
     number.cast_unsigned()
