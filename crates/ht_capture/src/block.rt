@@ -1,8 +1,9 @@
 //! Blocks of jobs.
-ghost use Rattle.std.specs.Prelude.{◌≡◌, ◌+◌, ◌<◌, ◌≤◌, ◌↔◌, ℕ, Some, length, slice_get, slice_index, unwrap_or, IfOk, IfSome, IsTrue};
+ghost use Rattle.std.specs.Prelude.{◌≡◌, ◌≢◌, ◌+◌, ◌<◌, ◌≤◌, ◌↔◌, Some, length, slice_get, unwrap_or, IfOk, IfSome, IsTrue};
 ghost use Rattle.std.specs.Arc.{arc_value};
 ghost use Rattle.ht_map.specs.Gray.{label_of};
-ghost use Rattle.ht_rounding.specs.Labels.{IsLabelled};
+ghost use Rattle.ht_rate.specs.Rates.{modulation_of};
+ghost use Rattle.ht_rounding.specs.Labels.{AreLabelledFrom, IsUnsure};
 ghost use Rattle.ht_capture.specs.declared.places.Present.{Present as PresentValue};
 ghost use Rattle.ht_capture.specs.Parts.{job_in, jobs_of, part_of};
 
@@ -110,14 +111,15 @@ impl SymbolBlock {
     }
 
     /// The labels of the first nearest vectors of eight jobs, from the one on that has `at` others before it, and their squared
-    /// distances, in the lanes that are sure. Where the frame's modulation is another one, none is.
+    /// distances, in the lanes that are sure (IEEE Std 802.11-2012, clause 20.3.11.9). Where the frame's modulation is another
+    /// one, no lane is sure. Else no clause tells which lanes are: a body that is never sure would be proved too, and only be slow.
     #[inline]
     pub fn labels(&self, modulation: Modulation, at: u16) -> Labelled
         requires { at + 8 ≤ length (jobs_of self.now) }
         ensures some { 1 ≤ result.streams }
         ensures few { result.streams ≤ 4 }
-        ensures labels { (k : ℕ) → k < 8 → IfSome (slice_get (jobs_of self.now) (at + k))
-            (λ job. 0 < slice_index result.sure k → IsLabelled (λ p. unwrap_or (label_of modulation p) 0) result k job) }
+        ensures labels { AreLabelledFrom (λ p. unwrap_or (label_of modulation p) 0) (jobs_of self.now) at result }
+        ensures other { modulation_of self.now.head.rate ≢ modulation → IsUnsure result }
     {
         let symbol: &SharedSymbol = &self.symbol;
         symbol.labels(modulation, usize::from(self.first + at))

@@ -8,7 +8,7 @@ ghost use Rattle.ht_rounding.specs.Loading.{IsWord};
 ghost use Rattle.ht_capture.specs.Systems.{samples_at};
 
 use byteorder::{BigEndian, ByteOrder};
-use ht_rounding::{Parts, Samples};
+use ht_rounding::{Parts, Samples, word};
 use std::simd::prelude::*;
 
 // The number at a place.
@@ -18,14 +18,6 @@ fn number(octets: &[u8], at: usize) -> i32
     ensures { result ≡ cast_signed w32 (big_number 4 (drop at octets.now)) }
 {
     BigEndian::read_i32(&octets[at..])
-}
-
-// A number with a sign as a word.
-#[inline(always)]
-fn word(number: i32) -> u32
-    ensures { IsWord result number }
-{
-    number.cast_unsigned()
 }
 
 // Eight numbers from a place on, each so many octets behind the one before it.
@@ -63,7 +55,8 @@ fn row(octets: &[u8], at: usize, streams: usize, row: usize) -> Parts
     }
 }
 
-/// What was received on eight subcarriers of so many streams, whose samples follow one another from a place on.
+/// What was received on eight subcarriers of at most four streams, whose samples follow one another in the octets, from the place
+/// `at` on: lane k has those of subcarrier k.
 #[inline(always)]
 pub fn samples(octets: &[u8], at: usize, streams: usize) -> Samples
     requires few { streams ≤ 4 }
@@ -79,7 +72,9 @@ pub fn samples(octets: &[u8], at: usize, streams: usize) -> Samples
     }
 }
 
-/// The same, with code of its own for each number of streams.
+/// What was received on eight subcarriers of one to four streams. Their samples follow one another in the octets, from the place
+/// `at` on: eight octets for each stream of a subcarrier, the real part first, both big-endian with a sign. Lane k has those of
+/// subcarrier k, and 0 on rows that there are no streams for. There is code of its own for each number of streams.
 #[inline(always)]
 pub fn samples_of(octets: &[u8], at: usize, streams: u8) -> Samples
     requires some { 1 ≤ streams }

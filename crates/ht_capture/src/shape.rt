@@ -1,8 +1,9 @@
 //! What the symbols of a frame share.
-ghost use Rattle.std.specs.Prelude.{◌≡◌, ◌+◌, ◌*◌, ◌<◌, ◌≤◌, ◌↔◌, ℕ, length, take, drop, get_or, slice_index, unwrap_or, IfOk, IsTrue};
+ghost use Rattle.std.specs.Prelude.{◌≡◌, ◌≢◌, ◌+◌, ◌*◌, ◌<◌, ◌≤◌, ◌↔◌, ℕ, length, take, drop, get_or, slice_index, unwrap_or, IfOk, IsTrue};
 ghost use Rattle.ht_map.specs.Constellation.{grid_of};
 ghost use Rattle.ht_map.specs.Gray.{label_of};
-ghost use Rattle.ht_rounding.specs.Labels.{IsLabelled};
+ghost use Rattle.ht_rate.specs.Rates.{modulation_of};
+ghost use Rattle.ht_rounding.specs.Labels.{IsLabelled, IsUnsure};
 ghost use Rattle.ht_capture.specs.declared.places.Present.{Present as PresentValue};
 ghost use Rattle.ht_capture.specs.Frames.{carrier_octets, job_at};
 ghost use Rattle.ht_capture.specs.InColumns.{HasColumns};
@@ -124,7 +125,7 @@ impl Shape {
     }
 
     /// The labels of the jobs of eight subcarriers from one on, in a symbol whose samples stand in octets from a place on, in the
-    /// lanes that are sure.
+    /// lanes that are sure. Where the frame's modulation is another one, none is.
     #[inline]
     pub fn labels(&self, modulation: Modulation, k: usize, octets: &[u8], at: usize) -> Labelled
         requires inside { k + 8 ≤ length self.now.present }
@@ -134,6 +135,7 @@ impl Shape {
         ensures labels { (j symbol number : ℕ) (d : PresentValue) → j < 8 → 0 < slice_index result.sure j
             → IsLabelled (λ p. unwrap_or (label_of modulation p) 0) result j
             (job_at self.now.head symbol number (get_or self.now.present (k + j) d) octets.now (at + j * carrier_octets self.now.head.rate)) }
+        ensures other { modulation_of self.now.head.rate ≢ modulation → IsUnsure result }
     {
         let samples = samples_of(octets, at, self.head.rate.streams());
         self.columns.labels(modulation, k, &samples)

@@ -1,7 +1,8 @@
 //! Symbols whose jobs are shared.
-ghost use Rattle.std.specs.Prelude.{◌≡◌, ◌+◌, ◌*◌, ◌^◌, ◌<◌, ◌≤◌, ◌↔◌, ℕ, length, get_or, slice_index, unwrap_or, IfOk, IsTrue};
+ghost use Rattle.std.specs.Prelude.{◌≡◌, ◌≢◌, ◌+◌, ◌*◌, ◌^◌, ◌<◌, ◌≤◌, ◌↔◌, ℕ, length, get_or, slice_index, unwrap_or, IfOk, IsTrue};
 ghost use Rattle.ht_map.specs.Gray.{label_of};
-ghost use Rattle.ht_rounding.specs.Labels.{IsLabelled};
+ghost use Rattle.ht_rate.specs.Rates.{modulation_of};
+ghost use Rattle.ht_rounding.specs.Labels.{IsLabelled, IsUnsure};
 ghost use Rattle.ht_capture.specs.declared.places.Present.{Present as PresentValue};
 ghost use Rattle.ht_capture.specs.Frames.{carrier_octets};
 ghost use Rattle.ht_capture.specs.Parts.{IsSymbol, job_in, moved, part_of};
@@ -143,7 +144,8 @@ impl SharedSymbol {
             .job(k, self.symbol, self.number + k as u64, &self.octets, at)
     }
 
-    /// The labels of the jobs of eight subcarriers from one on, in the lanes that are sure.
+    /// The labels of the jobs of eight subcarriers from one on, in the lanes that are sure. Where the frame's modulation is another
+    /// one, none is.
     #[inline]
     pub fn labels(&self, modulation: Modulation, k: usize) -> Labelled
         requires { k + 8 ≤ length self.now.present }
@@ -151,6 +153,7 @@ impl SharedSymbol {
         ensures few { result.streams ≤ 4 }
         ensures labels { (j : ℕ) (d : PresentValue) → j < 8 → 0 < slice_index result.sure j
             → IsLabelled (λ p. unwrap_or (label_of modulation p) 0) result j (job_in self.now (k + j) d) }
+        ensures other { modulation_of self.now.head.rate ≢ modulation → IsUnsure result }
     {
         let at = width(k, self.shape.head().rate.streams());
         self.shape.labels(modulation, k, &self.octets, at)

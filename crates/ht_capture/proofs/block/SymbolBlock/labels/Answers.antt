@@ -1,9 +1,10 @@
-use Rattle.std.proofs.Common.{ℕ, ◌≡◌, ◌≤◌, ◌<◌, ◌+◌, [], length, arith, ap, sym, subst, slice_index, unwrap_or}
+use Rattle.std.proofs.Common.{ℕ, ◌≡◌, ◌≤◌, ◌<◌, ◌+◌, [], length, arith, ap, sym, subst, unwrap_or, ◌∙◌}
 use Rattle.std.specs.Arc.{arc_value}
-use Rattle.std.specs.Prelude.{IfSome, Option}
+use Rattle.std.specs.Prelude.{Option}
 use Rattle.ht_map.specs.Gray.{label_of}
 use Rattle.ht_metric.specs.Jobs.{JobView}
-use Rattle.ht_rounding.specs.Labels.{IsLabelled}
+use Rattle.ht_rate.specs.Rates.{modulation_of}
+use Rattle.ht_rounding.specs.Labels.{IsLabelledIn}
 use Rattle.ht_capture.specs.declared.places.Present.{Present}
 use Rattle.ht_capture.specs.Parts.{SymbolPart, jobs_of, part_of}
 use Rattle.ht_capture.proofs.Sharing.{jobs_length, part_job}
@@ -37,5 +38,10 @@ returns-clause-labels c = λ k small.
     let is = part_job (arc_value b.symbol) c.deref-symbol.result.now b.first b.count (c.args.at + k) (c.from.result + k) d c.self.invariant.1
     (omega (arith, room, small)) c.deref-symbol.ensures place in
     rw (← c.self.view_is)
-    (subst (λ (o : Option JobView). IfSome o (λ job. 0 < slice_index c.labels.result.sure k
-    → IsLabelled (λ p. unwrap_or (label_of c.args.modulation p) 0) c.labels.result k job)) (sym is) (λ some. c.labels.ensures.labels k d small some))
+    (subst (λ (o : Option JobView). IsLabelledIn (λ p. unwrap_or (label_of c.args.modulation p) 0) c.labels.result k o) (sym is)
+    (λ some. c.labels.ensures.labels k d small some))
+
+pub returns-clause-other : goal.returns-clause-other
+returns-clause-other c =
+    let same = ap (λ (s : SymbolPart). modulation_of s.head.rate) c.deref-symbol.ensures in
+    rw (← c.self.view_is) (λ other. c.labels.ensures.other (λ e. other (sym same ∙ e)))

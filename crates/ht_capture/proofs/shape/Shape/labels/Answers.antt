@@ -17,3 +17,7 @@ returns-clause-labels c j symbol number d lt some =
     (λ ls size. subst (λ (n : ℕ). HasSamples c.samples_of-samples.result j (rows_of ls (samples_at n octets (c.args.at + j * (8 * n))))) value
     (c.samples_of-samples.ensures j ls lt (size ∙ sym value)))
     (λ jobs job are room like heard. c.labels.ensures.labels jobs j job are room lt like heard some))
+
+pub returns-clause-other : goal.returns-clause-other
+returns-clause-other c =
+    rw (← c.self.view_is) (λ other. c.labels.ensures.other (λ e. other (sym c.self.invariant.1.modulation ∙ e)))

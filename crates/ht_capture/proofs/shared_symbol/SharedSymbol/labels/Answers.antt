@@ -1,7 +1,7 @@
-use Rattle.std.proofs.Common.{ℕ, ◌≡◌, ◌+◌, ◌*◌, ap, arith, length, ◌∙◌, unwrap_or}
+use Rattle.std.proofs.Common.{ℕ, ◌≡◌, ◌+◌, ◌*◌, ap, arith, length, sym, ◌∙◌, unwrap_or}
 use Rattle.std.specs.Arc.{arc_value}
 use Rattle.ht_map.specs.Gray.{label_of}
-use Rattle.ht_rate.specs.Rates.{streams_of}
+use Rattle.ht_rate.specs.Rates.{modulation_of, streams_of}
 use Rattle.ht_capture.specs.declared.items.FrameHead.{FrameHead}
 use Rattle.ht_capture.specs.Frames.{carrier_octets}
 use Rattle.ht_capture.specs.Parts.{ShapeView}
@@ -33,3 +33,8 @@ returns-clause-labels c j d lt some =
     (symbol_job (λ p. unwrap_or (label_of c.args.modulation p) 0) c.labels.result c.deref-2.result.now shape it.symbol (it.number + (c.args.k + j))
     c.deref-3.result.now it.octets.items c.args.k j c.width-at.result d c.deref-2.ensures c.deref-3.ensures.value start
     (c.labels.ensures.labels j it.symbol (it.number + (c.args.k + j)) d lt some))
+
+pub returns-clause-other : goal.returns-clause-other
+returns-clause-other c =
+    let same = ap (λ (s : ShapeView). modulation_of s.head.rate) c.deref-2.ensures in
+    rw (← c.self.view_is) (λ other. c.labels.ensures.other (λ e. other (sym same ∙ e)))
