@@ -1,13 +1,13 @@
 -- Jobs under other numbers are the same jobs.
 use Rattle.std.proofs.Common.{◌≡◌, ℕ, zero, suc, ◌+◌, List, [], ◌∷◌, length, map, slice_get, Option, Some, refl, ap, ◌∙◌, sym, subst, arith}
 use Rattle.std.specs.Option.{option_map}
-use Rattle.std.specs.Prelude.{◌<◌, IfSome, None, slice_index}
+use Rattle.std.specs.Prelude.{None}
 use Rattle.ht_metric.specs.Jobs.{JobView, near}
 use Rattle.ht_metric.specs.declared.found.Found.{Found}
 use Rattle.ht_metric.specs.declared.place.Place.{Place}
 use Rattle.ht_pam.specs.declared.point.Point.{Point}
 use Rattle.ht_rounding.specs.declared.eight.Labelled.{Labelled}
-use Rattle.ht_rounding.specs.Labels.{IsLabelled}
+use Rattle.ht_rounding.specs.Labels.{IsLabelledIn}
 use Rattle.ht_feed.specs.Items.{Numbered}
 use Rattle.ht_feed.specs.Dues.{AreHits, IsPlaceAt, StartsAt}
 use Rattle.ht_feed.specs.Numbers.{numbered, with_number}
@@ -62,10 +62,6 @@ place_at n place (job ∷ jobs) (suc at) is = place_at (n + 1) place jobs at is
 -- a block, as it stands inside, has as many jobs as contracts see
 pub as_many_jobs : (inside seen : LaneJobs) → inside ≡ seen → length inside.jobs ≡ length (whole_jobs seen)
 as_many_jobs inside seen is = ap (λ (b : LaneJobs). length b.jobs) is ∙ sym (length_numbered seen.first seen.jobs)
-
--- where there is such a job, a lane that is sure has its labels by this
-abbrev pub IsLabelledIn : (Point → ℕ) → Labelled → ℕ → Option JobView → Type 0
-IsLabelledIn label r k o = IfSome o (λ job. 0 < slice_index r.sure k → IsLabelled label r k job)
 
 labelled_again : (label : Point → ℕ) (r : Labelled) (k n : ℕ) (o : Option JobView) → IsLabelledIn label r k o
     → IsLabelledIn label r k (option_map (with_number n) o)

@@ -1,7 +1,8 @@
 use Rattle.std.proofs.Common.{◌+◌, slice_get, subst, unwrap_or, arith}
 use Rattle.ht_map.specs.Gray.{label_of}
+use Rattle.ht_rounding.specs.Labels.{IsLabelledIn}
 use Rattle.ht_lanes.specs.Lanes.{LaneJobs, whole_jobs}
-use Rattle.ht_lanes.proofs.Numbering.{IsLabelledIn, as_many_jobs, labelled_at}
+use Rattle.ht_lanes.proofs.Numbering.{as_many_jobs, labelled_at}
 use Rattle.ht_lanes.proofs.lane_block.LaneBlockInLanes.labels.Goals as goal
 
 pub labels-requires : goal.labels-requires
