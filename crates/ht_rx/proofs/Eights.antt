@@ -8,9 +8,9 @@ use Rattle.ht_frames.specs.Tallies.{IsTally}
 use Rattle.ht_frames.proofs.Tallying.{take_one}
 use Rattle.ht_results.specs.Folding.{label_plan}
 use Rattle.ht_rounding.specs.declared.eight.Labelled.{Labelled}
-use Rattle.ht_rounding.specs.Labels.{IsLabelled, labels_in}
+use Rattle.ht_rounding.specs.Labels.{AreLabelledFrom, IsLabelled, labels_in}
 use Rattle.ht_rounding.specs.Loading.{no_job}
-use Rattle.ht_rx.specs.InLanes.{AreLabelledFrom, HasFirst}
+use Rattle.ht_rx.specs.InLanes.{HasFirst}
 
 module _ (label : Point → ℕ) (lanes : Labelled) where
   abbrev Says : ℕ → JobView → Type 0

@@ -20,10 +20,10 @@ use Rattle.ht_rate.specs.declared.kinds.Carrier.{Carrier}
 use Rattle.ht_rate.specs.declared.kinds.Carrier.TheVariants.{Data}
 use Rattle.ht_results.specs.Folding.{label_at, label_plan, streams_in}
 use Rattle.ht_results.specs.Plans.{distances, is_data, on_data_by, place_by}
-use Rattle.ht_rounding.specs.Labels.{IsLabelled, labels_in}
+use Rattle.ht_rounding.specs.Labels.{IsLabelled, IsLabelledIn, labels_in}
 use Rattle.ht_rounding.specs.Loading.{no_job}
 use Rattle.ht_rounding.specs.declared.eight.Labelled.{Labelled}
-use Rattle.ht_rx.specs.InLanes.{HasFirst, IsLabelledAt, jobs_behind, lane_labels}
+use Rattle.ht_rx.specs.InLanes.{HasFirst, jobs_behind, lane_labels}
 use Rattle.ht_rx.proofs.Eights.{as_many}
 
 -- the labels of one more lane
@@ -114,7 +114,7 @@ module _ (head : FrameHead) where
       → lanes.streams ≡ streams_in head → lanes.streams ≤ 4 → k ≡ first + c → i ≡ n + c → i < length jobs → e ≡ slice_index lanes.distance k → e ≤ 2 ^ 66
       → 0 < slice_index lanes.sure k → place.symbol ≡ symbol → label_plan.kind head place.carrier ≡ Data (m + c)
       → IfSome (slice_get jobs i) (λ job. job.place ≡ place)
-      → IsLabelledAt (label_at (modulation_of head.rate)) jobs i lanes k
+      → IsLabelledIn (label_at (modulation_of head.rate)) lanes k (slice_get jobs i)
       → IsTally label_plan head (jobs_behind jobs n c) c d 0 (range_with_len (place_by label_plan head symbol m) (c * lanes.streams))
       (lane_labels lanes first c)
       → IsTally label_plan head (jobs_behind jobs n (c + 1)) (c + 1) (d + e) 0 (range_with_len (place_by label_plan head symbol m) ((c + 1) * lanes.streams))

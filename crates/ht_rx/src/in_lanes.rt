@@ -4,10 +4,10 @@ ghost use Rattle.std.specs.List.{range_with_len};
 ghost use Rattle.ht_metric.specs.Jobs.{JobView, near};
 ghost use Rattle.ht_rate.specs.declared.kinds.Carrier.TheVariants.{Data};
 ghost use Rattle.ht_rate.specs.Rates.{modulation_of};
-ghost use Rattle.ht_rounding.specs.Labels.{labels_in};
+ghost use Rattle.ht_rounding.specs.Labels.{AreLabelledFrom, labels_in};
 ghost use Rattle.ht_frames.specs.Tallies.{IsTally};
 ghost use Rattle.ht_results.specs.Folding.{label_at, label_plan, streams_in};
-ghost use Rattle.ht_rx.specs.InLanes.{AreLabelledFrom, HasFirst, jobs_behind, lane_labels};
+ghost use Rattle.ht_rx.specs.InLanes.{HasFirst, jobs_behind, lane_labels};
 
 use crate::hard_labels::{HardLabels, push_labels};
 use ht_capture::FrameHead;
