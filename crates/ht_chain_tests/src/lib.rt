@@ -6,7 +6,8 @@
 //! say where expected values come from: `rate` and `scramble` have values of the standard, `clause18` those of its annex
 //! L.1, `interleave` values from outside, and `soft` what other programs found. `viterbi` tries all inputs of short words
 //! in turn, and holds its decoders against each other. `weighing` holds all weights of a job that one search finds against those
-//! of the two halves of each label bit, of which every vector is tried.
+//! of the two halves of each label bit, of which every vector is tried. `rounding` holds what lanes find of hostile jobs against
+//! the detector that tries all vectors.
 //!
 //! These tests have a crate of their own because a check of tests proves their whole crate once more.
 #![tactic(auto)]
@@ -44,6 +45,10 @@ mod scramble;
 mod clause18;
 #[cfg(test)]
 mod tx;
+
+// Points that are detected.
+#[cfg(test)]
+mod rounding;
 
 // Frames that are decoded.
 #[cfg(test)]

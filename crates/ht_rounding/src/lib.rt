@@ -18,8 +18,6 @@ mod loading;
 mod only;
 mod rows;
 mod streams;
-#[cfg(test)]
-mod tests;
 mod words;
 
 pub use block::find_eight;

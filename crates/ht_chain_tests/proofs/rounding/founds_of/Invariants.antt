@@ -1,4 +1,4 @@
-use Rattle.ht_rounding.proofs.tests.founds_of.Given as goal
+use Rattle.ht_chain_tests.proofs.rounding.founds_of.Given as goal
 
 abbrev pub ghosts-answered : goal.ghosts-answered
 ghosts-answered a = record { name = a.blank.name; parts = a.blank.parts }

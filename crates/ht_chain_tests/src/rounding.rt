@@ -1,10 +1,10 @@
 //! Hostile jobs, answered by lanes or the search, against the detector that tries all vectors.
 ghost use Rattle.std.specs.Prelude.{◌≡◌, ◌<◌, length};
 
-use crate::{find_eight, find_only, label_eight};
 use ht_metric::{Found, Job, Place, Sample, System, Tap, Triangle, Vector, plain_nearest};
 use ht_pam::{Grid, Ladder, Point, Steps};
 use ht_rate::Modulation;
+use ht_rounding::{find_eight, find_only, label_eight};
 use std::marker::Brand;
 use std::process::Abort;
 use std::sync::ledger::{Blank, Ledger};
