@@ -11,8 +11,8 @@ use Rattle.ht_feed.specs.Dues.{NoneEmpty, all_in}
 use Rattle.ht_feed.specs.Feeds.{FeedView, GivesBlock, IsAlong}
 use Rattle.ht_feed.specs.Items.{Numbered}
 use Rattle.ht_feed.proofs.Turning.{all_in-more, came_of}
-use Rattle.ht_drive.specs.Blocks.{IsSameHelm, gave}
-use Rattle.ht_drive.specs.Blocks.{BlockHelm, IsBlock, jobs_in, jobs_of}
+use Rattle.ht_drive.specs.Blocks.{IsSameCaller, gave}
+use Rattle.ht_drive.specs.Blocks.{BlockCaller, IsBlock, jobs_in, jobs_of}
 use Rattle.ht_drive.specs.Driving.{Tallies}
 use Rattle.ht_drive.specs.declared.tally.Tally.{Tally}
 use Rattle.ht_drive.proofs.Windows.{full-more}
@@ -38,8 +38,8 @@ numbers_more count given jobs was numbered n = omega (arith, was n, sum_by-appen
 numbers_later : (count more : ℕ) (given : List JobView) → HaveNumbers count given → HaveNumbers (count + more) given
 numbers_later count more given was n = omega (arith, was n, below_later n count more)
 
--- it is the same helm still
-pub same_on : (a b c : BlockHelm) → IsSameHelm a b → IsSameHelm b c → IsSameHelm a c
+-- it is the same caller still
+pub same_on : (a b c : BlockCaller) → IsSameCaller a b → IsSameCaller b c → IsSameCaller a c
 same_on a b c ab bc = record {
   capacity_is = bc.capacity_is ∙ ab.capacity_is;
   deques_are = bc.deques_are ∙ ab.deques_are;
@@ -47,7 +47,7 @@ same_on a b c ab bc = record {
 }
 
 -- the same was given to the same pool
-pub tallies_still : (t : Tally) (h h' : BlockHelm) → Tallies t h → h'.given ≡ h.given → h'.capacity ≡ h.capacity → Tallies t h'
+pub tallies_still : (t : Tally) (h h' : BlockCaller) → Tallies t h → h'.given ≡ h.given → h'.capacity ≡ h.capacity → Tallies t h'
 tallies_still t h h' was given room =
     let same = ap (λ (xs : List (List JobView)). length xs) given in
     record {
@@ -59,7 +59,7 @@ tallies_still t h h' was given room =
     }
 
 -- a block was given, or the pool had no memory for it
-module _ (t : Tally) (h : BlockHelm) (jobs : List JobView) (tallies : Tallies t h) (numbered : Numbered t.issued jobs) (block : IsBlock jobs) where
+module _ (t : Tally) (h : BlockCaller) (jobs : List JobView) (tallies : Tallies t h) (numbered : Numbered t.issued jobs) (block : IsBlock jobs) where
   pub issues_given : (t' : Tally) → t'.issued ≡ t.issued + length jobs → t'.own ≡ t.own → Tallies t' (gave h jobs)
   issues_given t' issued own =
       let some = block.some in
@@ -87,7 +87,7 @@ told_more : (all given jobs : List JobView) → AreByNumber all given → AreByN
 told_more all [] jobs told more = more
 told_more all (g ∷ given) jobs told more = (told.0, told_more all given jobs told.1 more)
 
-pub told_given : (all : List JobView) (h : BlockHelm) (jobs : List JobView) → AreByNumber all (all_in h.given) → AreByNumber all jobs
+pub told_given : (all : List JobView) (h : BlockCaller) (jobs : List JobView) → AreByNumber all (all_in h.given) → AreByNumber all jobs
     → AreByNumber all (all_in (gave h jobs).given)
 told_given all h jobs told more =
     subst (λ (xs : List JobView). AreByNumber all xs) (sym (all_in-more h.given jobs)) (told_more all (all_in h.given) jobs told more)

@@ -12,7 +12,7 @@ use Rattle.ht_pool.specs.declared.closed.Closed.{Closed}
 use Rattle.ht_pool.specs.declared.member.Member.{Member}
 use Rattle.ht_feed.specs.OwnNumbers.{HaveNumbers}
 use Rattle.ht_feed.specs.Dues.{NoneEmpty, all_in}
-use Rattle.ht_drive.specs.Blocks.{BlockHelm, RunBlock, jobs_in, jobs_of, jobs_run, lacking, lacks, pool_of, run_block, task_of}
+use Rattle.ht_drive.specs.Blocks.{BlockCaller, RunBlock, jobs_in, jobs_of, jobs_run, lacking, lacks, pool_of, run_block, task_of}
 use Rattle.ht_drive.specs.Driving.{Tallies}
 use Rattle.ht_drive.specs.Reports.{HasRunInPool, IsShared, Passes, Report, blocks_pushed, came_back, deques_of}
 use Rattle.ht_drive.specs.declared.tally.Tally.{Tally}
@@ -78,7 +78,7 @@ summed (runs ∷ others) = omega (
   sum_by-append (λ (r : RunBlock). length r.jobs) runs (flat_map (λ (rs : List RunBlock). rs) others),
 )
 
-module _ (t : Tally) (h : BlockHelm) (members : List Helper) (c : Closed (List JobView) RunBlock) (tallies : Tallies t h)
+module _ (t : Tally) (h : BlockCaller) (members : List Helper) (c : Closed (List JobView) RunBlock) (tallies : Tallies t h)
     (run : HasRun task_of jobs_in (pool_of h) members c) (answered : lacking h.answers ≡ 0) where
   abbrev passes_of : Passes
   passes_of = record { deques = c.deques; results = c.pass }

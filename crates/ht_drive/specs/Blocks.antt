@@ -6,8 +6,8 @@ use Rattle.std.specs.List.{sum_by}
 use Rattle.ht_metric.specs.Jobs.{JobView}
 use Rattle.ht_feed.specs.Dues.{NoneEmpty, count_in}
 use Rattle.atomic_table.specs.Seated.{TableId}
-use Rattle.ht_pool.specs.Helms.{HelmView, IsSameHelm as IsSamePool}
-use Rattle.ht_pool.specs.Seats.{DequeId}
+use Rattle.ht_pool.specs.Callers.{CallerView, IsSameCaller as IsSamePool}
+use Rattle.ht_pool.specs.Takers.{DequeId}
 
 -- how many jobs a block has
 abbrev pub jobs_in : List JobView → ℕ
@@ -47,10 +47,10 @@ jobs_run runs = sum_by (λ (run : RunBlock). length run.jobs) runs
 
 -- the end of a pool at which blocks are given and come back
 abbrev pub BlockPool : Type 0
-BlockPool = HelmView (List JobView) RunBlock
+BlockPool = CallerView (List JobView) RunBlock
 
 -- the caller's end of a pool that runs blocks
-pub record BlockHelm : Type 0 where
+pub record BlockCaller : Type 0 where
   -- this number of blocks can be given for sure
   pub capacity : ℕ
   -- a deque for each worker, the caller's first, and the queue of what came of blocks
@@ -63,8 +63,8 @@ pub record BlockHelm : Type 0 where
   -- whether all that came back, of blocks taken back too, were answered
   pub whole : Bool
 
-abbrev pub helm_of : BlockPool → Bool → BlockHelm
-helm_of pool whole = record {
+abbrev pub caller_of : BlockPool → Bool → BlockCaller
+caller_of pool whole = record {
   capacity = pool.capacity;
   deques = pool.deques;
   queue = pool.queue;
@@ -74,35 +74,35 @@ helm_of pool whole = record {
   whole = whole;
 }
 
-abbrev pub pool_of : BlockHelm → BlockPool
-pool_of helm = record {
-  capacity = helm.capacity;
-  deques = helm.deques;
-  queue = helm.queue;
-  given = helm.given;
-  taken = helm.taken;
-  answers = helm.answers;
+abbrev pub pool_of : BlockCaller → BlockPool
+pool_of caller = record {
+  capacity = caller.capacity;
+  deques = caller.deques;
+  queue = caller.queue;
+  given = caller.given;
+  taken = caller.taken;
+  answers = caller.answers;
 }
 
 -- one more block was given
-abbrev pub gave : BlockHelm → List JobView → BlockHelm
-gave helm jobs = record helm { given = helm.given ++ jobs ∷ [] }
+abbrev pub gave : BlockCaller → List JobView → BlockCaller
+gave caller jobs = record caller { given = caller.given ++ jobs ∷ [] }
 
 -- as many blocks were taken back or received as were given
-abbrev pub IsSettled : BlockHelm → Type 0
-IsSettled helm = length helm.given ≤ length helm.taken + length helm.answers
+abbrev pub IsSettled : BlockCaller → Type 0
+IsSettled caller = length caller.given ≤ length caller.taken + length caller.answers
 
--- it is the same helm, of the same pool
-pub record IsSameHelm (old new : BlockHelm) : Type 0 where
+-- it is the same caller, of the same pool
+pub record IsSameCaller (old new : BlockCaller) : Type 0 where
   pub capacity_is : new.capacity ≡ old.capacity
   pub deques_are : new.deques ≡ old.deques
   pub queue_is : new.queue ≡ old.queue
 
 -- a block that is out is one of those that were given, and each of the others has come back, with its answer where all did
-pub record CountsOut (out : ℕ) (helm : BlockHelm) : Type 0 where
-  pub back : length helm.given ≤ out + (length helm.taken + length helm.answers)
-  pub few : out ≤ length helm.given
-  pub answered : helm.whole ≡ true → lacking helm.answers ≡ 0
+pub record CountsOut (out : ℕ) (caller : BlockCaller) : Type 0 where
+  pub back : length caller.given ≤ out + (length caller.taken + length caller.answers)
+  pub few : out ≤ length caller.given
+  pub answered : caller.whole ≡ true → lacking caller.answers ≡ 0
 
 -- one block more has come back, of which this came
 pub record ComesBack (old new : BlockPool) (run : RunBlock) : Type 0 where

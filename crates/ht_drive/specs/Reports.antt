@@ -6,7 +6,7 @@ use Rattle.ht_metric.specs.Jobs.{JobView}
 use Rattle.ht_list.specs.Counts.{SameCounts}
 use Rattle.ht_pool.specs.Pools.{IsEmptied, moved_on, taken_on}
 use Rattle.ht_pool.specs.Through.{first_of, through}
-use Rattle.ht_pool.specs.declared.hand.Hand.{Hand}
+use Rattle.ht_pool.specs.declared.pass_log.PassLog.{PassLog}
 use Rattle.ht_feed.specs.OwnNumbers.{AreByNumber, HaveNumbers}
 use Rattle.ht_feed.specs.Dues.{NoneEmpty, all_in}
 use Rattle.ht_drive.specs.Blocks.{RunBlock, jobs_of, jobs_run, lacking, task_of}
@@ -25,7 +25,7 @@ abbrev pub jobs_reported : Report → ℕ
 jobs_reported report = report.jobs
 
 -- what went through the deques
-abbrev pub deques_of : Passes → List (Hand (List JobView))
+abbrev pub deques_of : Passes → List (PassLog (List JobView))
 deques_of passes = map through passes.deques.items
 
 -- the blocks that were pushed on the caller's deque, in order
@@ -33,7 +33,7 @@ abbrev pub blocks_pushed : Passes → List (List JobView)
 blocks_pushed passes = (first_of (deques_of passes)).pushed
 
 -- what went through the queue: what came of the blocks that others ran
-abbrev pub came_back : Passes → Hand RunBlock
+abbrev pub came_back : Passes → PassLog RunBlock
 came_back passes = view passes.results
 
 -- one worker ran all jobs without a pool

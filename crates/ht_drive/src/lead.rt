@@ -3,8 +3,8 @@ ghost use Rattle.std.specs.Prelude.{◌⊎◌};
 ghost use Rattle.ht_drive.specs.Blocks.{seen};
 ghost use Rattle.ht_drive.specs.Driving.{HasYetToLead, LeadsBlocks};
 
+use crate::caller::BlockCaller;
 use crate::deliver::deliver;
-use crate::helm::BlockHelm;
 use crate::pace::Pace;
 use crate::supply::supply;
 use crate::tally::Tally;
@@ -27,26 +27,26 @@ pub(crate) fn lead<
     runner: &Runner<'_, B, A, W>,
     window: &mut Window<B, A>,
     pace: &mut Pace,
-    helm: &mut BlockHelm<'_, '_, B, A, W>,
+    caller: &mut BlockCaller<'_, '_, B, A, W>,
     feed: &mut F,
 ) -> Result<Tally, DriveFault<F::Fault>>
-    requires { HasYetToLead (seen B.jobs window.old) helm.old (F.shown feed.old) }
-    ensures { LeadsBlocks F.shown F.leads (A.may_lack ⊎ B.may_lack) window.old.capacity feed.old feed.new helm.old helm.new result }
+    requires { HasYetToLead (seen B.jobs window.old) caller.old (F.shown feed.old) }
+    ensures { LeadsBlocks F.shown F.leads (A.may_lack ⊎ B.may_lack) window.old.capacity feed.old feed.new caller.old caller.new result }
 {
     let mut tally = Tally { issued: 0, own: 0 };
     let mut running = true;
     for _ in rt.forever() {
-        running = match supply(window, helm, &mut tally, pace.size(), running, feed) {
+        running = match supply(window, caller, &mut tally, pace.size(), running, feed) {
             Ok(on) => on,
             Err(fault) => return Err(fault),
         };
         if let Err(fault) = deliver(window, feed) {
             return Err(DriveFault::Feed(fault));
         }
-        if !running && window.is_empty() && helm.is_home() {
+        if !running && window.is_empty() && caller.is_home() {
             return Ok(tally);
         }
-        if turn(runner.work, window, helm, pace).is_err() {
+        if turn(runner.work, window, caller, pace).is_err() {
             return Err(DriveFault::Work);
         }
     }

@@ -13,14 +13,14 @@
 //!
 //! [`drive`] promises of the feed what `drive_alone` does, and says in a [`Report`] how many jobs each worker ran, and
 //! which blocks went through the deques and the queue. [`tell`] goes through a whole input of any reader in this way, and
-//! hands the hits to an account.
+//! hands the hits to a consumer.
 //!
 //! For a capture of 112 jobs, two workers and a window of 256, the report may say that the caller ran 50 jobs and the
 //! other worker 62: `jobs` is 112, `own` is 0, and `ran` is 50 and 62.
 #![tactic(auto)]
 
+mod caller;
 mod deliver;
-mod helm;
 mod lead;
 mod pace;
 mod report;

@@ -4,10 +4,10 @@ ghost use Rattle.ht_metric.specs.Jobs.{JobView};
 ghost use Rattle.ht_feed.specs.OwnNumbers.{AreByNumber};
 ghost use Rattle.ht_feed.specs.Dues.{all_in, count_in};
 ghost use Rattle.ht_feed.specs.Items.{Numbered};
-ghost use Rattle.ht_drive.specs.Blocks.{IsBlock, IsSameHelm, block_window, due_in, seen};
+ghost use Rattle.ht_drive.specs.Blocks.{IsBlock, IsSameCaller, block_window, due_in, seen};
 ghost use Rattle.ht_drive.specs.Driving.{Holds, IsLeading, Refuses, Stands, StepsOn, Tallies};
 
-use crate::helm::BlockHelm;
+use crate::caller::BlockCaller;
 use crate::tally::Tally;
 use crate::task::Task;
 use crate::window::Window;
@@ -18,22 +18,22 @@ use std::alloc::AllocError;
 // block in its turn. The only error is that there was no memory for the copy.
 fn issue<B: Shared + Drop + Send, A: Answer + Drop + Send, W: Work<B, Answer = A>>(
     window: &mut Window<B, A>,
-    helm: &mut BlockHelm<'_, '_, B, A, W>,
+    caller: &mut BlockCaller<'_, '_, B, A, W>,
     tally: &mut Tally,
     block: B,
 ) -> Result<(), AllocError>
     requires block { IsBlock (B.jobs block) }
     requires room { count_in (due_in B.jobs window.old.slots) + length (B.jobs block) ≤ window.old.capacity }
-    requires tallies { Tallies tally.old helm.old }
+    requires tallies { Tallies tally.old caller.old }
     requires numbers { Numbered tally.old.issued (B.jobs block) }
     requires last { tally.old.issued + length (B.jobs block) < 2 ^ 64 - 1 }
     ensures window { seen B.jobs window.new ≡ block_window window.old.capacity (due_in B.jobs window.old.slots ++ B.jobs block ∷ []) }
-    ensures tallies { OnOk result (Tallies tally.new helm.new) }
-    ensures by_number { OnOk result ((all : List JobView) → AreByNumber all (all_in helm.old.given) → AreByNumber all (B.jobs block)
-        → AreByNumber all (all_in helm.new.given)) }
+    ensures tallies { OnOk result (Tallies tally.new caller.new) }
+    ensures by_number { OnOk result ((all : List JobView) → AreByNumber all (all_in caller.old.given) → AreByNumber all (B.jobs block)
+        → AreByNumber all (all_in caller.new.given)) }
     ensures issued { tally.new.issued ≡ tally.old.issued + length (B.jobs block) }
-    ensures same { IsSameHelm helm.old helm.new }
-    ensures whole { helm.new.whole ≡ helm.old.whole }
+    ensures same { IsSameCaller caller.old caller.new }
+    ensures whole { caller.new.whole ≡ caller.old.whole }
     ensures lacks { OnErr result B.may_lack }
 {
     let size = u64::from(block.size());
@@ -43,7 +43,7 @@ fn issue<B: Shared + Drop + Send, A: Answer + Drop + Send, W: Work<B, Answer = A
     let Some(copy) = copy else {
         return Err(AllocError);
     };
-    if !helm.give(Task::new(place, copy)) {
+    if !caller.give(Task::new(place, copy)) {
         tally.own += size;
     }
     Ok(())
@@ -58,7 +58,7 @@ pub(crate) fn supply<
     W: Work<B, Answer = A>,
 >(
     window: &mut Window<B, A>,
-    helm: &mut BlockHelm<'_, '_, B, A, W>,
+    caller: &mut BlockCaller<'_, '_, B, A, W>,
     tally: &mut Tally,
     size: u16,
     running: bool,
@@ -66,23 +66,23 @@ pub(crate) fn supply<
 ) -> Result<bool, DriveFault<F::Fault>>
     requires some { 1 ≤ size }
     requires capacity { window.old.capacity ≤ 4096 }
-    requires stands { Stands running (seen B.jobs window.old) helm.old tally.old (F.shown feed.old) }
+    requires stands { Stands running (seen B.jobs window.old) caller.old tally.old (F.shown feed.old) }
 
     // However it ends.
     ensures steps { StepsOn F.shown F.leads (seen B.jobs window.old) (seen B.jobs window.new) feed.old feed.new }
     ensures holds { Holds (seen B.jobs window.new) (F.shown feed.new) }
     ensures issued { tally.new.issued ≡ (F.shown feed.new).count }
-    ensures same { IsSameHelm helm.old helm.new }
+    ensures same { IsSameCaller caller.old caller.new }
 
     ensures goes_on { IfOk result (λ on. IsLeading F.shown F.leads on (seen B.jobs window.old)
-        (seen B.jobs window.new) helm.old helm.new tally.new feed.old feed.new) }
+        (seen B.jobs window.new) caller.old caller.new tally.new feed.old feed.new) }
     ensures refuses { IfErr result (Refuses (A.may_lack ⊎ B.may_lack) (F.shown feed.new)) }
 {
     let mut running = running;
     while running && window.room() >= size {
         match feed.next(size) {
             Ok(Some(block)) => {
-                if issue(window, helm, tally, block).is_err() {
+                if issue(window, caller, tally, block).is_err() {
                     return Err(DriveFault::Work);
                 }
             }

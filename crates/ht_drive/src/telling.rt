@@ -1,19 +1,19 @@
 //! A whole input, whose blocks workers run, and what becomes of its hits.
 ghost use Rattle.std.specs.Prelude.{◌≡◌, ◌-◌, ◌<◌, []};
-ghost use Rattle.ht_feed.specs.Accounts.{telling_of};
-ghost use Rattle.ht_feed.specs.Desks.{feed_view};
+ghost use Rattle.ht_feed.specs.Consumers.{telling_of};
+ghost use Rattle.ht_feed.specs.InFlights.{feed_view};
 ghost use Rattle.ht_feed.specs.Feeds.{IsFreshFeed};
 ghost use Rattle.ht_feed.specs.Inputs.{TellsInput};
 ghost use Rattle.ht_feed.specs.Limits.{IsCrewSize, IsWindowSize};
 ghost use Rattle.ht_feed.specs.Reading.{IsFreshReader};
-ghost use Rattle.ht_feed.specs.Telling.{RunsDesk, seen_by};
+ghost use Rattle.ht_feed.specs.Telling.{RunsInFlight, seen_by};
 
 use crate::report::Report;
 use crate::task::{Done, Task};
 use crate::threaded::drive;
 use ht_feed::{
-    Account, BlockReader, BookFault, Desk, DeskFeed, Desking, DriveFault, Ended, Shared, Work,
-    end_of,
+    BlockReader, BookFault, Consumer, DriveFault, Ended, InFlight, InFlightFeed, KeepsInFlight,
+    Shared, Work, end_of,
 };
 use ht_io::Source;
 use ht_runs::RunFault;
@@ -21,13 +21,13 @@ use std::alloc::Global;
 use std::sync::Wait;
 use std::thread::Threads;
 
-// Has workers run all blocks of a desk that gave none yet.
-fn run_desk<
+// Has workers run all blocks of an in-flight reader that gave none yet.
+fn run_in_flight<
     T: Threads + Wait + Sync,
     R: BlockReader + Drop,
-    D: Desking<R>,
+    D: KeepsInFlight<R>,
     S: Source,
-    A: Account<R>,
+    A: Consumer<R>,
     W: Work<R::Block, Answer = A::Answer> + Sync,
 >(
     rt: &T,
@@ -35,9 +35,9 @@ fn run_desk<
     workers: u8,
     window: u16,
     work: &W,
-    desk: &mut D,
+    in_flight: &mut D,
     source: &mut S,
-    account: &mut A,
+    consumer: &mut A,
     failed: &mut Option<BookFault>,
 ) -> Result<Report<Task<R::Block>, Done<R::Block, A::Answer>>, DriveFault<BookFault>>
 where
@@ -45,13 +45,13 @@ where
     A::Answer: Send + Sync,
     requires crew { IsCrewSize workers }
     requires window { IsWindowSize window }
-    requires fresh { IsFreshFeed (feed_view R.counts (D.seen desk.old) failed.old) }
-    ensures runs { RunsDesk (seen_by R.means R.at (D.seen desk.old) (S.shown source.old) (telling_of A.shown A.pieces A.waits account.old))
-        (seen_by R.means R.at (D.seen desk.new) (S.shown source.new) (telling_of A.shown A.pieces A.waits account.new))
-        (D.seen desk.new) failed.old failed.new result }
-    ensures same { A.lent account.new ≡ A.lent account.old }
+    requires fresh { IsFreshFeed (feed_view R.counts (D.seen in_flight.old) failed.old) }
+    ensures runs { RunsInFlight (seen_by R.means R.at (D.seen in_flight.old) (S.shown source.old) (telling_of A.shown A.pieces A.waits consumer.old))
+        (seen_by R.means R.at (D.seen in_flight.new) (S.shown source.new) (telling_of A.shown A.pieces A.waits consumer.new))
+        (D.seen in_flight.new) failed.old failed.new result }
+    ensures same { A.lent consumer.new ≡ A.lent consumer.old }
 {
-    let mut feed = DeskFeed::new(desk, source, account, failed);
+    let mut feed = InFlightFeed::new(in_flight, source, consumer, failed);
     drive(rt, alloc, workers, window, work, &mut feed)
 }
 
@@ -62,7 +62,7 @@ pub fn tell<
     T: Threads + Wait + Sync,
     R: BlockReader + Drop,
     S: Source,
-    A: Account<R>,
+    A: Consumer<R>,
     W: Work<R::Block, Answer = A::Answer> + Sync,
 >(
     rt: &T,
@@ -73,7 +73,7 @@ pub fn tell<
     head: R::Head,
     work: &W,
     source: &mut S,
-    account: &mut A,
+    consumer: &mut A,
 ) -> Result<Ended, RunFault>
 where
     R::Block: Shared + Send + Sync,
@@ -81,23 +81,23 @@ where
     requires crew { IsCrewSize workers }
     requires window { IsWindowSize window }
     requires fresh { IsFreshReader (R.counts reader) }
-    requires rests { A.waits account.old [] }
+    requires rests { A.waits consumer.old [] }
     ensures { TellsInput R.means R.at reader head (S.shown source.old) (S.shown source.new)
-        (telling_of A.shown A.pieces A.waits account.old) (telling_of A.shown A.pieces A.waits account.new)
-        (A.lent account.old) (A.lent account.new) result }
+        (telling_of A.shown A.pieces A.waits consumer.old) (telling_of A.shown A.pieces A.waits consumer.new)
+        (A.lent consumer.old) (A.lent consumer.new) result }
 {
-    let mut desk = Desk::new(alloc, reader, head, window)?;
+    let mut in_flight = InFlight::new(alloc, reader, head, window)?;
     let mut failed = None;
-    let driven = run_desk(
+    let driven = run_in_flight(
         rt,
         alloc,
         workers,
         window,
         work,
-        &mut desk,
+        &mut in_flight,
         source,
-        account,
+        consumer,
         &mut failed,
     );
-    end_of(&desk, driven)
+    end_of(&in_flight, driven)
 }

@@ -4,13 +4,13 @@ ghost use Rattle.std.specs.List.{All};
 ghost use Rattle.ht_feed.specs.Limits.{IsCrewSize, IsWindowSize};
 ghost use Rattle.ht_feed.specs.Drives.{DrivesBlocks};
 ghost use Rattle.ht_feed.specs.Feeds.{IsFreshFeed};
-ghost use Rattle.ht_pool.specs.Members.{HasServed, berth_of, berths};
+ghost use Rattle.ht_pool.specs.Members.{HasServed, workplace_of, workplaces};
 ghost use Rattle.ht_pool.specs.Pools.{IsOpened, IsVacant};
 ghost use Rattle.ht_drive.specs.Blocks.{IsSettled, due_in, jobs_in, seen, task_of};
 ghost use Rattle.ht_drive.specs.Driving.{HasYetToLead, Tallies};
 ghost use Rattle.ht_drive.specs.Reports.{HasRunInPool, HasRunJobs, blocks_pushed, jobs_reported};
 
-use crate::helm::BlockHelm;
+use crate::caller::BlockCaller;
 use crate::lead::lead;
 use crate::pace::Pace;
 use crate::report::{Passes, Report};
@@ -18,13 +18,13 @@ use crate::tally::Tally;
 use crate::task::{Done, Runner, Task};
 use crate::window::Window;
 use ht_feed::{Answer, BlockFeed, DriveFault, Jobs, Shared, Work, drive_alone};
+use ht_pool::caller::Caller;
+use ht_pool::caller_end::CallerEnd;
 use ht_pool::close::close;
 use ht_pool::closed::Closed;
 use ht_pool::crew::beside;
-use ht_pool::helm::Helm;
 use ht_pool::member::Member;
 use ht_pool::pool::Pool;
-use ht_pool::post::Post;
 use ht_pool::shared::Shared as Common;
 use ht_pool::space::Space;
 use std::alloc::Global;
@@ -97,16 +97,16 @@ fn in_pool<
     feed: &mut F,
 ) -> Result<Report<Task<B>, Done<B, A>>, DriveFault<E>>
     requires opened { IsOpened window.capacity pool }
-    requires several { 2 ≤ length pool.post.deques }
+    requires several { 2 ≤ length pool.caller_end.deques }
     requires capacity { window.capacity ≤ 4096 }
     requires empty { due_in B.jobs window.slots ≡ [] }
     requires fresh { IsFreshFeed (F.shown feed.old) }
     ensures drives { DrivesBlocks F.shown F.leads (A.may_lack ⊎ B.may_lack) jobs_reported window.capacity feed.old feed.new result }
-    ensures ran { IfOk result (HasRunJobs (length pool.post.deques) window.capacity (F.shown feed.old).left) }
+    ensures ran { IfOk result (HasRunJobs (length pool.caller_end.deques) window.capacity (F.shown feed.old).left) }
 {
     let Pool {
         shared,
-        post,
+        caller_end,
         members,
         space,
     } = pool;
@@ -118,18 +118,18 @@ fn in_pool<
     let mut pace = pace;
     let shared = &shared;
     let runner = &runner;
-    let mut helm = BlockHelm::new(Helm::new(post, shared, runner));
+    let mut caller = BlockCaller::new(Caller::new(caller_end, shared, runner));
     let (members, led) = beside(
         rt,
         runner,
         shared,
         members,
         &mut || -> Result<Tally, DriveFault<E>>
-            requires { HasYetToLead (seen B.jobs window) helm (F.shown feed.now) }
-        { lead(rt, runner, &mut window, &mut pace, &mut helm, feed) },
+            requires { HasYetToLead (seen B.jobs window) caller (F.shown feed.now) }
+        { lead(rt, runner, &mut window, &mut pace, &mut caller, feed) },
     );
     match led {
-        Ok(tally) => Ok(finish(tally, helm, members, space)),
+        Ok(tally) => Ok(finish(tally, caller, members, space)),
         Err(fault) => Err(fault),
     }
 }
@@ -137,22 +137,22 @@ fn in_pool<
 // What was done, once every block was taken and the workers have ended.
 fn finish<B: Jobs + Drop + Send, A: Answer + Drop + Send, W: Work<B, Answer = A>>(
     tally: Tally,
-    helm: BlockHelm<'_, '_, B, A, W>,
+    caller: BlockCaller<'_, '_, B, A, W>,
     members: Vec<Member<Task<B>, Done<B, A>>>,
     space: Space<Task<B>>,
 ) -> Report<Task<B>, Done<B, A>>
-    requires served { All (HasServed task_of jobs_in helm.queue) members.items }
-    requires berths { map berth_of members.items ≡ berths helm.deques }
-    requires space { IsVacant (length helm.deques) space }
-    requires settled { IsSettled helm }
-    requires whole { helm.whole ≡ true }
-    requires tallies { Tallies tally helm }
+    requires served { All (HasServed task_of jobs_in caller.queue) members.items }
+    requires workplaces { map workplace_of members.items ≡ workplaces caller.deques }
+    requires space { IsVacant (length caller.deques) space }
+    requires settled { IsSettled caller }
+    requires whole { caller.whole ≡ true }
+    requires tallies { Tallies tally caller }
     ensures jobs { result.jobs ≡ tally.issued }
     ensures passes { IsSome result.passes }
-    ensures ran { IfSome result.passes (HasRunInPool (length helm.entry.deques) helm.entry.capacity result) }
-    ensures given { IfSome result.passes (λ passes. blocks_pushed passes ≡ helm.entry.given) }
+    ensures ran { IfSome result.passes (HasRunInPool (length caller.entry.deques) caller.entry.capacity result) }
+    ensures given { IfSome result.passes (λ passes. blocks_pushed passes ≡ caller.entry.given) }
 {
-    let Closed { deques, pass, ran } = close(helm.into_helm(), members, space);
+    let Closed { deques, pass, ran } = close(caller.into_caller(), members, space);
     Report {
         jobs: tally.issued,
         own: tally.own,

@@ -1,8 +1,8 @@
 //! What a caller does while it waits.
 ghost use Rattle.std.specs.Prelude.{◌≡◌, OnErr, OnOk};
-ghost use Rattle.ht_drive.specs.Blocks.{IsSameHelm, seen};
+ghost use Rattle.ht_drive.specs.Blocks.{IsSameCaller, seen};
 
-use crate::helm::BlockHelm;
+use crate::caller::BlockCaller;
 use crate::pace::Pace;
 use crate::window::Window;
 use ht_feed::{Answer, Shared, Work};
@@ -15,23 +15,23 @@ use std::thread;
 pub(crate) fn turn<B: Shared + Drop + Send, A: Answer + Drop + Send, W: Work<B, Answer = A>>(
     work: &W,
     window: &mut Window<B, A>,
-    helm: &mut BlockHelm<'_, '_, B, A, W>,
+    caller: &mut BlockCaller<'_, '_, B, A, W>,
     pace: &mut Pace,
 ) -> Result<(), AllocError>
     ensures window { seen B.jobs window.new ≡ seen B.jobs window.old }
-    ensures given { helm.new.given ≡ helm.old.given }
-    ensures same { IsSameHelm helm.old helm.new }
-    ensures whole { OnOk result (helm.new.whole ≡ helm.old.whole) }
+    ensures given { caller.new.given ≡ caller.old.given }
+    ensures same { IsSameCaller caller.old caller.new }
+    ensures whole { OnOk result (caller.new.whole ≡ caller.old.whole) }
     ensures lacks { OnErr result A.may_lack }
 {
-    if let Some(done) = helm.next() {
+    if let Some(done) = caller.next() {
         pace.see(done.is_hard(work));
         let place = done.number();
         let (block, answer) = done.into_parts()?;
         window.accept(place, &block, answer);
         return Ok(());
     }
-    if helm.is_home() {
+    if caller.is_home() {
         return window.answer_first(work);
     }
     thread::yield_now();

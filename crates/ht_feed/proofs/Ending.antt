@@ -14,7 +14,7 @@ use Rattle.ht_feed.specs.declared.ended.Ended.{Ended}
 use Rattle.ht_feed.specs.declared.stop.Stop.{Stop}
 use Rattle.ht_feed.specs.declared.stop.Stop.TheVariants.{Whole, Refused, Broken, Lacking}
 use Rattle.ht_feed.specs.Items.{Item, Headed, headed, last_head, frames_of, jobs_of}
-use Rattle.ht_feed.specs.Accounts.{PutsPartOf}
+use Rattle.ht_feed.specs.Consumers.{PutsPartOf}
 use Rattle.ht_feed.specs.Leading.{headed-append}
 use Rattle.ht_feed.specs.Outcomes.{EndsBroken, EndsPartly, EndsRefused, EndsWhole, pieces_of}
 use Rattle.ht_feed.specs.Reading.{Closes, ReadsBy}
@@ -26,7 +26,7 @@ items_are {I = I} m items fault is = ap (λ (x : Meaning I). x.items) is
 fault_is : {I : Type 0} (m : Meaning I) (items : List I) (fault : Option FormatFault) → m ≡ record { items = items; fault = fault } → m.fault ≡ fault
 fault_is {I = I} m items fault is = ap (λ (x : Meaning I). x.fault) is
 
--- the reader in front of an input; an account that puts this of jobs; the head that stands for the one that came last; the
+-- the reader in front of an input; a consumer that puts this of jobs; the head that stands for the one that came last; the
 -- source after; and the device before and after
 module _ {H P : Type 0} (start : ReaderView (Item H)) (pieces : List (Headed H) → List P) (head : H) (source' : Device ℕ) (device device' : Device P) where
   abbrev all_pieces : List ℕ → List P

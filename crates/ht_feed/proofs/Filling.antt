@@ -1,4 +1,4 @@
--- Blocks that are due, and what holds of a desk.
+-- Blocks that are due, and what holds of an in-flight reader.
 use Rattle.std.proofs.Common.{◌≡◌, ℕ, ◌+◌, ◌<◌, ◌≤◌, List, [], ◌∷◌, ◌++◌, drop, length, Option, None, Some, refl, ap, ◌∙◌, sym, subst, arith}
 use Rattle.std.proofs.Common.{append-nil, append_assoc}
 use Rattle.std.proofs.lemmas.Option.{none-some}
@@ -9,7 +9,7 @@ use Rattle.ht_feed.specs.declared.stop.Stop.{Stop}
 use Rattle.ht_feed.specs.Items.{Item, Headed, Numbered}
 use Rattle.ht_feed.specs.Dues.{Due, NoneEmpty, all_due, count_in, due_of, headed_due, jobs_in}
 use Rattle.ht_feed.specs.Reading.{Counts, CountsBlock, Finds, begun}
-use Rattle.ht_feed.specs.Desks.{AddsBlock, DeskView, IsSoundDesk, ReadsMore, standing}
+use Rattle.ht_feed.specs.InFlights.{AddsBlock, InFlightView, IsSoundInFlight, ReadsMore, standing}
 
 -- no more blocks than jobs
 few_blocks : (blocks : List (List JobView)) → NoneEmpty blocks → length blocks ≤ count_in blocks
@@ -58,25 +58,25 @@ module _ {H : Type 0} where
       omega (arith, e, f, some, few)
 
 -- a block was given
-module _ {R H : Type 0} (counts : R → Counts) (desk : DeskView R H) (reader : R) (head : H) (frames : ℕ) (due : List (Due H)) (count most : ℕ)
+module _ {R H : Type 0} (counts : R → Counts) (in_flight : InFlightView R H) (reader : R) (head : H) (frames : ℕ) (due : List (Due H)) (count most : ℕ)
     (jobs : List JobView)
-    (sound : IsSoundDesk counts desk) (none : desk.stop ≡ None) (counted : CountsBlock most (counts desk.reader) (counts reader) jobs)
-    (fewer : frames + (counts reader).more + length jobs ≤ desk.frames + (counts desk.reader).more)
-    (is : due ≡ desk.due ++ due_of head jobs ∷ []) (number : count ≡ desk.count + length jobs) where
-  abbrev pub added : DeskView R H
-  added = record desk { reader = reader; head = head; frames = frames; due = due; count = count }
+    (sound : IsSoundInFlight counts in_flight) (none : in_flight.stop ≡ None) (counted : CountsBlock most (counts in_flight.reader) (counts reader) jobs)
+    (fewer : frames + (counts reader).more + length jobs ≤ in_flight.frames + (counts in_flight.reader).more)
+    (is : due ≡ in_flight.due ++ due_of head jobs ∷ []) (number : count ≡ in_flight.count + length jobs) where
+  abbrev pub added : InFlightView R H
+  added = record in_flight { reader = reader; head = head; frames = frames; due = due; count = count }
 
-  pub sound_added : IsSoundDesk counts added
+  pub sound_added : IsSoundInFlight counts added
   sound_added =
       let bound = sound.bound in
       record {
         going = λ stop. counted.going;
         given = λ stop. counted.given ∙ (ap (λ n. n + length jobs) (sound.given none) ∙ sym number);
         bound = omega (arith, bound, fewer, number);
-        full = subst NoneEmpty (sym (ap jobs_in is ∙ jobs_in-append desk.due (due_of head jobs))) (full-append (jobs_in desk.due) jobs sound.full counted.some);
+        full = subst NoneEmpty (sym (ap jobs_in is ∙ jobs_in-append in_flight.due (due_of head jobs))) (full-append (jobs_in in_flight.due) jobs sound.full counted.some);
       }
 
-  pub adds_block : AddsBlock counts most desk added jobs
+  pub adds_block : AddsBlock counts most in_flight added jobs
   adds_block = record {
     due = is;
     numbers = subst (λ n. Numbered n jobs) (sound.given none) counted.numbers;
@@ -88,23 +88,23 @@ module _ {R H : Type 0} (counts : R → Counts) (desk : DeskView R H) (reader : 
   }
 
   pub reads_block : (means : R → List ℕ → Meaning (Item H)) (at : R → ℕ) (source after : Device ℕ)
-      → Finds (standing means at desk.reader None source) (standing means at reader None after) (begun desk.head desk.frames) (begun head frames)
-      (headed_due (due_of head jobs)) → ReadsMore means at desk added source after
+      → Finds (standing means at in_flight.reader None source) (standing means at reader None after) (begun in_flight.head in_flight.frames) (begun head frames)
+      (headed_due (due_of head jobs)) → ReadsMore means at in_flight added source after
   reads_block means at source after finds = record {
     came = headed_due (due_of head jobs);
-    finds = subst (λ (stop : Option Stop). Finds (standing means at desk.reader stop source) (standing means at reader stop after)
-        (begun desk.head desk.frames) (begun head frames) (headed_due (due_of head jobs))) (sym none) finds;
-    due = ap all_due is ∙ all_due-append desk.due (due_of head jobs);
-    count = number ∙ ap (λ n. desk.count + n) (sym (length-headed head jobs));
+    finds = subst (λ (stop : Option Stop). Finds (standing means at in_flight.reader stop source) (standing means at reader stop after)
+        (begun in_flight.head in_flight.frames) (begun head frames) (headed_due (due_of head jobs))) (sym none) finds;
+    due = ap all_due is ∙ all_due-append in_flight.due (due_of head jobs);
+    count = number ∙ ap (λ n. in_flight.count + n) (sym (length-headed head jobs));
   }
 
 -- the reading stopped
-module _ {R H : Type 0} (desk : DeskView R H) (reader : R) (head : H) (frames : ℕ) (stop : Stop) (none : desk.stop ≡ None) where
-  abbrev pub stopped : DeskView R H
-  stopped = record desk { reader = reader; stop = Some stop; head = head; frames = frames }
+module _ {R H : Type 0} (in_flight : InFlightView R H) (reader : R) (head : H) (frames : ℕ) (stop : Stop) (none : in_flight.stop ≡ None) where
+  abbrev pub stopped : InFlightView R H
+  stopped = record in_flight { reader = reader; stop = Some stop; head = head; frames = frames }
 
-  pub sound_stopped : (counts : R → Counts) → IsSoundDesk counts desk
-      → frames + (counts reader).more ≤ desk.frames + (counts desk.reader).more → IsSoundDesk counts stopped
+  pub sound_stopped : (counts : R → Counts) → IsSoundInFlight counts in_flight
+      → frames + (counts reader).more ≤ in_flight.frames + (counts in_flight.reader).more → IsSoundInFlight counts stopped
   sound_stopped counts sound fewer =
       let bound = sound.bound in
       record {
@@ -115,22 +115,22 @@ module _ {R H : Type 0} (desk : DeskView R H) (reader : R) (head : H) (frames : 
       }
 
   pub reads_none : (means : R → List ℕ → Meaning (Item H)) (at : R → ℕ) (source after : Device ℕ)
-      → Finds (standing means at desk.reader None source) (standing means at reader (Some stop) after) (begun desk.head desk.frames) (begun head frames) []
-      → ReadsMore means at desk stopped source after
+      → Finds (standing means at in_flight.reader None source) (standing means at reader (Some stop) after) (begun in_flight.head in_flight.frames) (begun head frames) []
+      → ReadsMore means at in_flight stopped source after
   reads_none means at source after finds = record {
     came = [];
-    finds = subst (λ (s : Option Stop). Finds (standing means at desk.reader s source) (standing means at reader (Some stop) after)
-        (begun desk.head desk.frames) (begun head frames) []) (sym none) finds;
-    due = sym (append-nil (all_due desk.due));
+    finds = subst (λ (s : Option Stop). Finds (standing means at in_flight.reader s source) (standing means at reader (Some stop) after)
+        (begun in_flight.head in_flight.frames) (begun head frames) []) (sym none) finds;
+    due = sym (append-nil (all_due in_flight.due));
     count = omega arith;
   }
 
 -- the first block was taken
-pub sound_taken : {R H : Type 0} (counts : R → Counts) (desk : DeskView R H) (due : List (Due H)) → IsSoundDesk counts desk → due ≡ drop 1 desk.due
-    → IsSoundDesk counts (record desk { due = due })
-sound_taken counts desk due sound is = record {
+pub sound_taken : {R H : Type 0} (counts : R → Counts) (in_flight : InFlightView R H) (due : List (Due H)) → IsSoundInFlight counts in_flight → due ≡ drop 1 in_flight.due
+    → IsSoundInFlight counts (record in_flight { due = due })
+sound_taken counts in_flight due sound is = record {
   going = sound.going;
   given = sound.given;
   bound = sound.bound;
-  full = subst NoneEmpty (sym (ap jobs_in is ∙ jobs_in-drop desk.due)) (full-drop (jobs_in desk.due) sound.full);
+  full = subst NoneEmpty (sym (ap jobs_in is ∙ jobs_in-drop in_flight.due)) (full-drop (jobs_in in_flight.due) sound.full);
 }

@@ -1,4 +1,4 @@
--- What a feed did over a new desk, from one end to the other.
+-- What a feed did over a new in-flight reader, from one end to the other.
 use Rattle.std.specs.Prelude.{◌≡◌, ◌≢◌, ℕ, List, [], ◌++◌, length, Option, Some, None, is_some, true, Result, Ok, Err, IsErr, IsErrAnd, MatchResult, OnOk}
 use Rattle.std.proofs.Common.{refl, ap, ◌∙◌, sym, subst, append-nil, arith}
 use Rattle.std.proofs.lemmas.Bool.{false≢true}
@@ -17,12 +17,12 @@ use Rattle.ht_feed.specs.declared.ended.Ended.{Ended}
 use Rattle.ht_feed.specs.declared.drive.DriveFault.{DriveFault}
 use Rattle.ht_feed.specs.declared.drive.DriveFault.TheVariants.{Feed, NoMemory as DriveMemory, Work}
 use Rattle.ht_feed.specs.Items.{Item, headed, frames_of, jobs_of}
-use Rattle.ht_feed.specs.Accounts.{Telling}
+use Rattle.ht_feed.specs.Consumers.{Telling}
 use Rattle.ht_feed.specs.Dues.{all_due, jobs_in}
-use Rattle.ht_feed.specs.Desks.{DeskView, desk_view}
+use Rattle.ht_feed.specs.InFlights.{InFlightView, in_flight_view}
 use Rattle.ht_feed.specs.Reading.{ClosesBehind, ReadsBy, view}
 use Rattle.ht_feed.specs.Stops.{ended_at, ended_by, failed_by, fault_of}
-use Rattle.ht_feed.specs.Telling.{RunsDesk, Seen, Tells, TellsBy, TellsPart, seen_by}
+use Rattle.ht_feed.specs.Telling.{RunsInFlight, Seen, Tells, TellsBy, TellsPart, seen_by}
 use Rattle.ht_feed.specs.Inputs.{TellsInput}
 use Rattle.ht_feed.specs.Outcomes.{Comes, StopsAs, EndsPartly, EndsWhole, pieces_of}
 use Rattle.ht_feed.proofs.Ending.{broken, in_part, refused, told_nothing, whole}
@@ -43,9 +43,9 @@ none_failed (Ok done) = refl
 none_failed (Err fault) = tt
 
 -- what a drive says that answers what failed
-pub runs_so : {R H P X : Type 0} {before after : Seen H P} {desk : DeskView R H} (driven : Result X (DriveFault BookFault))
-    → TellsBy None (failed_by driven) before after → OnOk driven (is_some desk.stop ≡ true) → OnOk driven (jobs_in desk.due ≡ [])
-    → RunsDesk before after desk None (failed_by driven) driven
+pub runs_so : {R H P X : Type 0} {before after : Seen H P} {in_flight : InFlightView R H} (driven : Result X (DriveFault BookFault))
+    → TellsBy None (failed_by driven) before after → OnOk driven (is_some in_flight.stop ≡ true) → OnOk driven (jobs_in in_flight.due ≡ [])
+    → RunsInFlight before after in_flight None (failed_by driven) driven
 runs_so {X = X} driven tells ended none = record {
   tells = tells;
   ended = ended;
@@ -64,15 +64,15 @@ module _ {R H P : Type 0} (means : R → List ℕ → Meaning (Item H)) (at : R 
   abbrev pieces : List ℕ → List P
   pieces = pieces_of a.pieces head start
 
-  -- a desk in front of the reader
-  abbrev fresh : DeskView R H
-  fresh = desk_view reader None head 0 [] 0
+  -- the reader, with nothing in flight
+  abbrev fresh : InFlightView R H
+  fresh = in_flight_view reader None head 0 [] 0
 
   abbrev Came : Result Ended RunFault → Type 0
   Came result = Comes means at reader head source source' a b result
 
-  -- what is seen of a desk that the feed leaves
-  module _ (new : DeskView R H) where
+  -- what is seen of an in-flight reader that the feed leaves
+  module _ (new : InFlightView R H) where
     abbrev first : Seen H P
     first = seen_by means at fresh source a
 
@@ -128,9 +128,9 @@ module _ {R H P : Type 0} (means : R → List ℕ → Meaning (Item H)) (at : R 
     stops_as Failed part = (part_told Failed part, part.cause refl)
     stops_as NoMemory part = part_told NoMemory part
 
-    -- what a drive says of a new desk
+    -- what a drive says of a new in-flight reader
     abbrev pub Heard : {X : Type 0} → Option BookFault → Result X (DriveFault BookFault) → Type 0
-    Heard failed driven = RunsDesk first last new None failed driven
+    Heard failed driven = RunsInFlight first last new None failed driven
 
     -- where memory lacked before all was read, a part was put
     told_in_part : Tells first last → EndsPartly start pieces source' a.device b.device
@@ -155,7 +155,7 @@ module _ {R H P : Type 0} (means : R → List ℕ → Meaning (Item H)) (at : R 
     puts_later None told = told.puts_later
     puts_later (Some fault) told = told.puts_later
 
-    -- where the answer isn't Write the account's device never failed
+    -- where the answer isn't Write the consumer's device never failed
     steady_by : {X : Type 0} (failed : Option BookFault) (driven : Result X (DriveFault BookFault)) → Heard failed driven
         → ended_by new.stop new.frames new.count driven ≢ Err Write → b.device.faults ≡ a.device.faults
     steady_by failed (Ok done) h other = (told_well failed h.well h.tells).steady
@@ -177,7 +177,7 @@ module _ {R H P : Type 0} (means : R → List ℕ → Meaning (Item H)) (at : R 
     heard_by failed (Err DriveMemory) h rests nothing = told_in_part (told_well failed (h.memory refl) h.tells)
     heard_by failed (Err Work) h rests nothing = told_in_part (told_well failed (h.work refl) h.tells)
 
-    -- the end of the reading, as its drive and its desk tell it
+    -- the end of the reading, as its drive and its in-flight reader tell it
     pub heard : {X : Type 0} (failed : Option BookFault) (driven : Result X (DriveFault BookFault)) (result : Result Ended RunFault)
         → Heard failed driven → a.Waits [] → (b.Waits [] → b.pieces [] ≡ []) → result ≡ ended_by new.stop new.frames new.count driven → Came result
     heard failed driven result h rests nothing is = subst Came (sym is) (heard_by failed driven h rests nothing)
@@ -190,7 +190,7 @@ stops_with (Ok x) P R Q is and so = absurd (false≢true is)
 stops_with (Err e) P R Q is and so = so e and
 
 module _ {R H P : Type 0} {means : R → List ℕ → Meaning (Item H)} {at : R → ℕ} {reader : R} {head : H} where
-  -- memory lacked before the first call of a desk
+  -- memory lacked before the first call of an in-flight reader
   pub told_lacking : {source : Device ℕ} {a : Telling H P} {lent : List ℕ} {result : Result Ended RunFault}
       → IsErr result → IsErrAnd result (λ f. f ≡ RunMemory) → TellsInput means at reader head source source a a lent lent result
   told_lacking {source} {a} {lent} {result} is and =
@@ -205,8 +205,8 @@ module _ {R H P : Type 0} {means : R → List ℕ → Meaning (Item H)} {at : R 
         same = refl;
       }
 
-  -- what a drive and its desk say of an input
-  pub told_input : {X : Type 0} {source source' : Device ℕ} {a b : Telling H P} {new : DeskView R H} {failed : Option BookFault}
+  -- what a drive and its in-flight reader say of an input
+  pub told_input : {X : Type 0} {source source' : Device ℕ} {a b : Telling H P} {new : InFlightView R H} {failed : Option BookFault}
       {driven : Result X (DriveFault BookFault)} {lent lent' : List ℕ} {result : Result Ended RunFault}
       → Heard means at reader head source source' a b new failed driven → a.Waits [] → (b.Waits [] → b.pieces [] ≡ [])
       → result ≡ ended_by new.stop new.frames new.count driven → lent' ≡ lent → TellsInput means at reader head source source' a b lent lent' result

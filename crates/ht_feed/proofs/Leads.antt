@@ -1,4 +1,4 @@
--- What the calls of a desk between a source and an account lead to.
+-- What the calls of an in-flight reader between a source and a consumer lead to.
 use Rattle.std.proofs.Common.{◌≡◌, ℕ, ◌+◌, List, [], ◌∷◌, ◌++◌, drop, take, length, Option, None, Some, Ok, Err, refl, ap, ◌∙◌, sym, subst, arith}
 use Rattle.std.proofs.Common.{append-nil, append_assoc}
 use Rattle.ht_io.specs.Devices.{Device}
@@ -8,8 +8,8 @@ use Rattle.ht_feed.specs.declared.book_fault.BookFault.{BookFault}
 use Rattle.ht_feed.specs.declared.book_fault.BookFault.TheVariants.{NoMemory}
 use Rattle.ht_feed.specs.Items.{Item, Begins, One, Headed, headed, jobs_of}
 use Rattle.ht_feed.specs.Dues.{Due, all_due, headed_due}
-use Rattle.ht_feed.specs.Accounts.{BooksJobs, Telling}
-use Rattle.ht_feed.specs.Desks.{DeskView, ReadsMore, standing}
+use Rattle.ht_feed.specs.Consumers.{BooksJobs, Telling}
+use Rattle.ht_feed.specs.InFlights.{InFlightView, ReadsMore, standing}
 use Rattle.ht_feed.specs.Leading.{reads_none}
 use Rattle.ht_feed.specs.Telling.{Seen, Tells, TellsBy, TellsPart, seen_by}
 
@@ -31,11 +31,11 @@ all_due-first {H = H} (b ∷ bs) =
 
 -- readers of R mean this and are here
 module _ {R H P : Type 0} (means : R → List ℕ → Meaning (Item H)) (at : R → ℕ) where
-  -- the desk read on
-  pub tells_given : (old new : DeskView R H) (source after : Device ℕ) (account : Telling H P)
-      → ((due : List (Headed H)) (h : Headed H) → account.Waits due → account.Waits (due ++ h ∷ []))
-      → ReadsMore means at old new source after → Tells (seen_by means at old source account) (seen_by means at new after account)
-  tells_given old new source after account more r =
+  -- the in-flight reader read on
+  pub tells_given : (old new : InFlightView R H) (source after : Device ℕ) (consumer : Telling H P)
+      → ((due : List (Headed H)) (h : Headed H) → consumer.Waits due → consumer.Waits (due ++ h ∷ []))
+      → ReadsMore means at old new source after → Tells (seen_by means at old source consumer) (seen_by means at new after consumer)
+  tells_given old new source after consumer more r =
       let f = r.finds in
       record {
         items = f.items;
@@ -45,26 +45,26 @@ module _ {R H P : Type 0} (means : R → List ℕ → Meaning (Item H)) (at : R 
         head = f.head;
         jobs = ap (λ (xs : List (Headed H)). all_due old.due ++ xs) f.jobs ∙ sym r.due;
         first = λ ys. refl;
-        grows = grows-none account.device;
-        waits = λ w. subst account.Waits (sym r.due) (waits_all account.Waits more (all_due old.due) r.came w);
+        grows = grows-none consumer.device;
+        waits = λ w. subst consumer.Waits (sym r.due) (waits_all consumer.Waits more (all_due old.due) r.came w);
         steady = refl;
         frames = f.frames;
         count = r.count ∙ ap (λ (n : ℕ). old.count + n) (ap (λ (xs : List (Headed H)). length xs) (sym f.jobs) ∙ length-headed old.head f.items);
         reads_later = f.later;
-        puts_later = later-refl account.device;
+        puts_later = later-refl consumer.device;
       }
 
   -- nothing was read, and a part was put of the pieces of the first jobs that are due
-  pub tells_part : {A : Type 0} {lent lent' : List ℕ} (desk : DeskView R H) (source : Device ℕ) (a b : Telling H P) (fault : BookFault)
-      (taken rest : List (Headed H)) → all_due desk.due ++ [] ≡ taken ++ rest
+  pub tells_part : {A : Type 0} {lent lent' : List ℕ} (in_flight : InFlightView R H) (source : Device ℕ) (a b : Telling H P) (fault : BookFault)
+      (taken rest : List (Headed H)) → all_due in_flight.due ++ [] ≡ taken ++ rest
       → BooksJobs {A = A} (Err fault) a.device b.device a.pieces b.pieces taken lent lent'
-      → TellsPart (seen_by means at desk source a) (seen_by means at desk source b) fault
-  tells_part desk source a b fault taken rest all books =
+      → TellsPart (seen_by means at in_flight source a) (seen_by means at in_flight source b) fault
+  tells_part in_flight source a b fault taken rest all books =
       record {
         items = [];
         answered = taken;
         rest = rest;
-        reads = reads_none (standing means at desk.reader desk.stop source);
+        reads = reads_none (standing means at in_flight.reader in_flight.stop source);
         jobs = all;
         part = books.part;
         reads_later = later-refl source;
@@ -74,16 +74,16 @@ module _ {R H P : Type 0} (means : R → List ℕ → Meaning (Item H)) (at : R 
       }
 
   -- nothing was read, and the pieces of the first jobs that were due were put; these are due still
-  pub tells_put : {A : Type 0} {x : A} {lent lent' : List ℕ} (desk : DeskView R H) (left : List (Due H)) (source : Device ℕ) (a b : Telling H P)
-      (taken : List (Headed H)) → all_due desk.due ++ [] ≡ taken ++ all_due left
-      → BooksJobs (Ok x) a.device b.device a.pieces b.pieces taken lent lent' → (a.Waits (all_due desk.due) → b.Waits (all_due left))
-      → Tells (seen_by means at desk source a) (seen_by means at (record desk { due = left }) source b)
-  tells_put desk left source a b taken all books waits =
+  pub tells_put : {A : Type 0} {x : A} {lent lent' : List ℕ} (in_flight : InFlightView R H) (left : List (Due H)) (source : Device ℕ) (a b : Telling H P)
+      (taken : List (Headed H)) → all_due in_flight.due ++ [] ≡ taken ++ all_due left
+      → BooksJobs (Ok x) a.device b.device a.pieces b.pieces taken lent lent' → (a.Waits (all_due in_flight.due) → b.Waits (all_due left))
+      → Tells (seen_by means at in_flight source a) (seen_by means at (record in_flight { due = left }) source b)
+  tells_put in_flight left source a b taken all books waits =
       record {
         items = [];
         answered = taken;
         put = books.put.0;
-        reads = reads_none (standing means at desk.reader desk.stop source);
+        reads = reads_none (standing means at in_flight.reader in_flight.stop source);
         head = refl;
         jobs = all;
         first = books.put.2;
@@ -97,35 +97,35 @@ module _ {R H P : Type 0} (means : R → List ℕ → Meaning (Item H)) (at : R 
       }
 
   -- memory lacked before anything was read
-  pub tells_lacking : (old new : DeskView R H) (source after : Device ℕ) (account : Telling H P) → new ≡ old → after ≡ source
-      → TellsPart (seen_by means at old source account) (seen_by means at new after account) NoMemory
-  tells_lacking old new source after account is same =
-      let here = seen_by means at old source account in
-      let none : BooksJobs {A = Unit {0}} (Err NoMemory) account.device account.device account.pieces account.pieces [] [] [] =
+  pub tells_lacking : (old new : InFlightView R H) (source after : Device ℕ) (consumer : Telling H P) → new ≡ old → after ≡ source
+      → TellsPart (seen_by means at old source consumer) (seen_by means at new after consumer) NoMemory
+  tells_lacking old new source after consumer is same =
+      let here = seen_by means at old source consumer in
+      let none : BooksJobs {A = Unit {0}} (Err NoMemory) consumer.device consumer.device consumer.pieces consumer.pieces [] [] [] =
       record {
         put = tt;
-        part = λ more. grows_by_part-none account.device (account.pieces more);
-        faults = record { steady = tt; cause = λ failed. cc; unfailed = λ lack. refl; later = later-refl account.device; same = refl };
+        part = λ more. grows_by_part-none consumer.device (consumer.pieces more);
+        faults = record { steady = tt; cause = λ failed. cc; unfailed = λ lack. refl; later = later-refl consumer.device; same = refl };
       } in
       let part : TellsPart here here NoMemory =
-      tells_part old source account account NoMemory [] (all_due old.due) (append-nil (all_due old.due)) none in
-      subst (λ (d : DeskView R H). TellsPart here (seen_by means at d after account) NoMemory) (sym is)
-      (subst (λ (s : Device ℕ). TellsPart here (seen_by means at old s account) NoMemory) (sym same) part)
+      tells_part old source consumer consumer NoMemory [] (all_due old.due) (append-nil (all_due old.due)) none in
+      subst (λ (d : InFlightView R H). TellsPart here (seen_by means at d after consumer) NoMemory) (sym is)
+      (subst (λ (s : Device ℕ). TellsPart here (seen_by means at old s consumer) NoMemory) (sym same) part)
 
   -- the answer to the first block was taken, and pieces were put
-  pub tells_taken : {A : Type 0} {x : A} {lent lent' : List ℕ} (old new : DeskView R H) (source : Device ℕ) (a b : Telling H P)
+  pub tells_taken : {A : Type 0} {x : A} {lent lent' : List ℕ} (old new : InFlightView R H) (source : Device ℕ) (a b : Telling H P)
       → new ≡ record old { due = drop 1 old.due } → BooksJobs (Ok x) a.device b.device a.pieces b.pieces (all_due (take 1 old.due)) lent lent'
       → (a.Waits (all_due old.due) → b.Waits (all_due (drop 1 old.due))) → Tells (seen_by means at old source a) (seen_by means at new source b)
   tells_taken old new source a b is books waits =
-      subst (λ (d : DeskView R H). Tells (seen_by means at old source a) (seen_by means at d source b)) (sym is)
+      subst (λ (d : InFlightView R H). Tells (seen_by means at old source a) (seen_by means at d source b)) (sym is)
       (tells_put old (drop 1 old.due) source a b (all_due (take 1 old.due)) (all_due-first old.due) books waits)
 
   -- the pieces of the first block could not be put, or not made
-  pub tells_refused : {A : Type 0} {lent lent' : List ℕ} (old new : DeskView R H) (source : Device ℕ) (a b : Telling H P) (fault : BookFault) → new ≡ old
+  pub tells_refused : {A : Type 0} {lent lent' : List ℕ} (old new : InFlightView R H) (source : Device ℕ) (a b : Telling H P) (fault : BookFault) → new ≡ old
       → BooksJobs {A = A} (Err fault) a.device b.device a.pieces b.pieces (all_due (take 1 old.due)) lent lent'
       → TellsPart (seen_by means at old source a) (seen_by means at new source b) fault
   tells_refused old new source a b fault is books =
-      subst (λ (d : DeskView R H). TellsPart (seen_by means at old source a) (seen_by means at d source b) fault) (sym is)
+      subst (λ (d : InFlightView R H). TellsPart (seen_by means at old source a) (seen_by means at d source b) fault) (sym is)
       (tells_part old source a b fault (all_due (take 1 old.due)) (all_due (drop 1 old.due)) (all_due-first old.due) books)
 
 -- none failed before

@@ -6,7 +6,7 @@ use Rattle.ht_metric.specs.Jobs.{JobView, near}
 use Rattle.ht_metric.specs.declared.found.Found.{Found}
 use Rattle.ht_feed.specs.Items.{Headed}
 use Rattle.ht_feed.specs.Dues.{due_of, headed_due}
-use Rattle.ht_feed.specs.Accounts.{PutsBlock, PutsPartOf}
+use Rattle.ht_feed.specs.Consumers.{PutsBlock, PutsPartOf}
 use Rattle.ht_feed.specs.Meters.{octet_of, octets_of}
 
 module _ {H : Type 0} (head : H) where

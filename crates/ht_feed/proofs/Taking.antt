@@ -5,8 +5,8 @@ use Rattle.ht_io.specs.Devices.{Device}
 use Rattle.ht_metric.specs.Jobs.{JobView}
 use Rattle.ht_feed.specs.declared.book_fault.BookFault.{BookFault}
 use Rattle.ht_feed.specs.Items.{Headed}
-use Rattle.ht_feed.specs.Accounts.{BooksJobs}
-use Rattle.ht_feed.specs.Desks.{DeskView}
+use Rattle.ht_feed.specs.Consumers.{BooksJobs}
+use Rattle.ht_feed.specs.InFlights.{InFlightView}
 use Rattle.ht_feed.specs.Dues.{Due, all_due, due_of, headed_due, jobs_in}
 
 module _ {H : Type 0} where
@@ -23,11 +23,11 @@ module _ {H : Type 0} where
       let same : b.jobs ≡ jobs = same_Some b.jobs jobs asked in
       ap (λ (h : H). due_of h b.jobs ∷ bs) heads ∙ ap (λ (js : List JobView). due_of head js ∷ bs) same
 
-  -- so it is in a desk that is seen so
-  pub first_of : {R : Type 0} (inside seen : DeskView R H) (d : Due H) (head : H) (jobs : List JobView) → inside ≡ seen → Some d ≡ slice_get inside.due 0
+  -- so it is in an in-flight reader that is seen so
+  pub first_of : {R : Type 0} (inside seen : InFlightView R H) (d : Due H) (head : H) (jobs : List JobView) → inside ≡ seen → Some d ≡ slice_get inside.due 0
       → head ≡ d.head → slice_get (jobs_in seen.due) 0 ≡ Some jobs → seen.due ≡ due_of head jobs ∷ drop 1 seen.due
   first_of {R} inside seen d head jobs same first is asked =
-      first_due seen.due d head jobs (ap (λ (desk : DeskView R H). slice_get desk.due 0) (sym same) ∙ sym first) is asked
+      first_due seen.due d head jobs (ap (λ (in_flight : InFlightView R H). slice_get in_flight.due 0) (sym same) ∙ sym first) is asked
 
   pub first_get : (due : List (Due H)) (d : Due H) → due ≡ d ∷ drop 1 due → slice_get due 0 ≡ Some d
   first_get due d is = ap (λ (bs : List (Due H)). slice_get bs 0) is

@@ -1,4 +1,4 @@
--- Whoever goes on from where a desk between a source and an account stands has gone on from where it began.
+-- Whoever goes on from where an in-flight reader between a source and a consumer stands has gone on from where it began.
 use Rattle.std.specs.Prelude.{◌≡◌, ℕ, ◌+◌, List, [], ◌∷◌, ◌++◌, Option, None, Some}
 use Rattle.std.proofs.Common.{refl, ap, ◌∙◌, sym, subst, arith, append_assoc, append-nil, length, length-append}
 use Rattle.ht_io.specs.Devices.{Device, Grows, GrowsByPart, Rose, IsLater}
@@ -9,7 +9,7 @@ use Rattle.ht_metric.specs.Jobs.{JobView}
 use Rattle.ht_feed.specs.declared.stop.Stop.{Stop}
 use Rattle.ht_feed.specs.declared.book_fault.BookFault.{BookFault}
 use Rattle.ht_feed.specs.Items.{Item, Begins, One, Headed, headed, headed_of, last_head, frames_of, jobs_of}
-use Rattle.ht_feed.specs.Accounts.{PutsFirst, PutsPartOf}
+use Rattle.ht_feed.specs.Consumers.{PutsFirst, PutsPartOf}
 use Rattle.ht_feed.specs.Reading.{Standing, Closes, ReadsOn, ReadsBy}
 use Rattle.ht_feed.specs.Telling.{Seen, Tells, TellsPart, RestsThen, TellsBy}
 
@@ -113,13 +113,13 @@ module _ {H : Type 0} where
           head = refl;
           jobs = append-nil seen.due;
           first = λ ys. refl;
-          grows = grows-none seen.account.device;
+          grows = grows-none seen.consumer.device;
           waits = λ w. w;
           steady = refl;
           frames = omega arith;
           count = omega arith;
           reads_later = later-refl seen.standing.reader.source;
-          puts_later = later-refl seen.account.device;
+          puts_later = later-refl seen.consumer.device;
         }
 
     pub tells-on : (old mid new : Seen H P) → Tells old mid → Tells mid new → Tells old new
@@ -132,8 +132,8 @@ module _ {H : Type 0} where
           head = heads-on old.head mid.head new.head a.items b.items a.head b.head;
           jobs = ap (λ (xs : List (Headed H)). old.due ++ xs) (headed-on old.head mid.head a.items b.items a.head)
               ∙ jobs-on old.due mid.due new.due a.answered b.answered (headed old.head a.items) (headed mid.head b.items) a.jobs b.jobs;
-          first = puts-on old.account.pieces mid.account.pieces new.account.pieces a.answered b.answered a.put b.put a.first b.first;
-          grows = grows-append old.account.device mid.account.device new.account.device a.put b.put a.grows b.grows;
+          first = puts-on old.consumer.pieces mid.consumer.pieces new.consumer.pieces a.answered b.answered a.put b.put a.first b.first;
+          grows = grows-append old.consumer.device mid.consumer.device new.consumer.device a.put b.put a.grows b.grows;
           waits = λ w. b.waits (a.waits w);
           steady = b.steady ∙ a.steady;
           frames = let e = frames_of-append a.items b.items in let f = a.frames in let g = b.frames in omega (arith, e, f, g);
@@ -143,7 +143,7 @@ module _ {H : Type 0} where
               let g = b.count in
               omega (arith, e, f, g);
           reads_later = later-later old.standing.reader.source mid.standing.reader.source new.standing.reader.source a.reads_later b.reads_later;
-          puts_later = later-later old.account.device mid.account.device new.account.device a.puts_later b.puts_later;
+          puts_later = later-later old.consumer.device mid.consumer.device new.consumer.device a.puts_later b.puts_later;
         }
 
     pub tells-fails : (old mid new : Seen H P) (fault : BookFault) → Tells old mid → TellsPart mid new fault → TellsPart old new fault
@@ -155,11 +155,11 @@ module _ {H : Type 0} where
           reads = reads-both old.standing mid.standing new.standing a.items b.items a.reads_later a.reads b.reads;
           jobs = ap (λ (xs : List (Headed H)). old.due ++ xs) (headed-on old.head mid.head a.items b.items a.head)
               ∙ jobs-on old.due mid.due b.rest a.answered b.answered (headed old.head a.items) (headed mid.head b.items) a.jobs b.jobs;
-          part = part-on old.account.device mid.account.device new.account.device
-              old.account.pieces mid.account.pieces a.answered b.answered a.put a.grows a.first b.part;
+          part = part-on old.consumer.device mid.consumer.device new.consumer.device
+              old.consumer.pieces mid.consumer.pieces a.answered b.answered a.put a.grows a.first b.part;
           reads_later = later-later old.standing.reader.source mid.standing.reader.source new.standing.reader.source a.reads_later b.reads_later;
-          puts_later = later-later old.account.device mid.account.device new.account.device a.puts_later b.puts_later;
-          cause = λ is. failed-later old.account.device mid.account.device new.account.device a.puts_later (b.cause is);
+          puts_later = later-later old.consumer.device mid.consumer.device new.consumer.device a.puts_later b.puts_later;
+          cause = λ is. failed-later old.consumer.device mid.consumer.device new.consumer.device a.puts_later (b.cause is);
           steady = λ is. b.steady is ∙ a.steady;
         }
 
@@ -171,10 +171,10 @@ module _ {H : Type 0} where
           rest = a.rest;
           reads = subst (λ (standing : Standing (Item H)). ReadsOn old.standing standing a.items) b.standing a.reads;
           jobs = a.jobs;
-          part = subst (λ (device : Device P). PutsPartOf old.account.device device old.account.pieces a.answered) b.device a.part;
+          part = subst (λ (device : Device P). PutsPartOf old.consumer.device device old.consumer.pieces a.answered) b.device a.part;
           reads_later = subst (λ (standing : Standing (Item H)). IsLater old.standing.reader.source standing.reader.source) b.standing a.reads_later;
-          puts_later = subst (λ (device : Device P). IsLater old.account.device device) b.device a.puts_later;
-          cause = λ write. subst (λ (device : Device P). Rose old.account.device device) b.device (a.cause (is ∙ write));
+          puts_later = subst (λ (device : Device P). IsLater old.consumer.device device) b.device a.puts_later;
+          cause = λ write. subst (λ (device : Device P). Rose old.consumer.device device) b.device (a.cause (is ∙ write));
           steady = λ none. ap (λ (device : Device P). device.faults) (sym b.device) ∙ a.steady (is ∙ none);
         }
 

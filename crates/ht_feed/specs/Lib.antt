@@ -5,9 +5,9 @@ pub mod Others
 pub mod OwnNumbers
 pub mod Reading
 pub mod Dues
-pub mod Accounts
+pub mod Consumers
 pub mod Feeds
-pub mod Desks
+pub mod InFlights
 pub mod Telling
 pub mod Leading
 pub mod Feeding

@@ -8,11 +8,11 @@ use Rattle.ht_runs.specs.declared.faults.RunFault.{RunFault}
 use Rattle.ht_runs.specs.declared.faults.RunFault.TheVariants.{Format, Read, Write, NoMemory}
 use Rattle.ht_feed.specs.declared.ended.Ended.{Ended}
 use Rattle.ht_fields.specs.Meanings.{Meaning}
-use Rattle.ht_feed.specs.Accounts.{Telling}
+use Rattle.ht_feed.specs.Consumers.{Telling}
 use Rattle.ht_feed.specs.Reading.{view}
 use Rattle.ht_feed.specs.Items.{Item, Headed, headed, frames_of, jobs_of}
 
--- what is put in all of a list of octets, by an account that puts this of jobs, and a reader that means this
+-- what is put in all of a list of octets, by a consumer that puts this of jobs, and a reader that means this
 abbrev pub pieces_of : {H P : Type 0} → (List (Headed H) → List P) → H → ReaderView (Item H) → List ℕ → List P
 pieces_of pieces head start octets = pieces (headed head (start.means octets).items)
 
@@ -64,7 +64,7 @@ module _ {H P : Type 0} (start : ReaderView (Item H)) (pieces : List ℕ → Lis
   StopsAs NoMemory = EndsPartly
 
 -- What a run came to, from a reader that means this and the head that stands for the one that came last: the source and
--- the account, before and after, and the answer.
+-- the consumer, before and after, and the answer.
 abbrev pub Comes : {R H P : Type 0} → (R → List ℕ → Meaning (Item H)) → (R → ℕ) → R → H → Device ℕ → Device ℕ → Telling H P → Telling H P
     → Result Ended RunFault → Type 0
 Comes means at reader head source source' a b result =

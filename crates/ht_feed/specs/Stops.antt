@@ -18,7 +18,7 @@ stop_of (Format fault) = Refused fault
 stop_of Read = Broken
 stop_of NoMemory = Lacking
 
--- why a run ends where its account can't go on
+-- why a run ends where its consumer can't go on
 abbrev pub fault_of : BookFault → RunFault
 fault_of BookFailed = RunWrite
 fault_of BookMemory = RunMemory
@@ -42,7 +42,7 @@ abbrev pub ended_by : {X : Type 0} → Option Stop → ℕ → ℕ → Result X 
 ended_by stop frames jobs (Ok done) = ended_at stop frames jobs
 ended_by stop frames jobs (Err fault) = Err (fault_of_drive fault)
 
--- what a call of the desk or of its account failed with, where the drive answered this
+-- what a call of the in-flight reader or of its consumer failed with, where the drive answered this
 abbrev pub failed_by : {X : Type 0} → Result X (DriveFault BookFault) → Option BookFault
 failed_by (Ok done) = None
 failed_by (Err (Feed fault)) = Some fault

@@ -6,7 +6,7 @@ use crate::jobs::Jobs;
 use std::alloc::AllocError;
 use std::sync::Wait;
 
-/// What is found for the jobs of a block, in the form in which an account takes it.
+/// What is found for the jobs of a block, in the form in which a consumer takes it.
 pub trait Answer {
     /// It is the answer to these jobs.
     ghost answers: { Self → List JobView → Type 0 };

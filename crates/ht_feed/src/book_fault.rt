@@ -1,4 +1,4 @@
-//! Why an account can't go on.
+//! Why a consumer can't go on.
 ghost use Rattle.std.specs.Prelude.{◌≡◌};
 
 use ht_io::Failed;
@@ -6,7 +6,7 @@ use ht_runs::RunFault;
 use std::alloc::AllocError;
 use thiserror::Error;
 
-/// Why an account of hits, or a feed in front of it, can't go on.
+/// Why a consumer of hits, or a feed in front of it, can't go on.
 #[derive(Clone, Copy, Debug, PartialEq, Eq, Error)]
 pub enum BookFault {
     /// The device that is put into failed.

@@ -1,4 +1,4 @@
-//! A block that is due, as a desk keeps it.
+//! A block that is due, as an in-flight reader keeps it.
 ghost use Rattle.std.specs.Prelude.{◌≡◌, ◌≤◌, length, true};
 ghost use Rattle.ht_feed.specs.Dues.{StartsAt, due_of};
 
@@ -8,7 +8,7 @@ use ht_metric::Place;
 use std::marker::Model;
 use std::snapshot::Snapshot;
 
-/// A block that is due, as a desk keeps it: the head of its frame, and the place of its first job. Contracts see the
+/// A block that is due, as an in-flight reader keeps it: the head of its frame, and the place of its first job. Contracts see the
 /// head and all of its jobs.
 #[derive(Drop)]
 pub struct DueBlock<R: BlockReader> {

@@ -1,48 +1,54 @@
-//! A desk as a feed.
+//! An in-flight reader as a feed.
 ghost use Rattle.std.specs.Prelude.{◌≡◌, slice_get, Some, IfErr, OnOk};
-ghost use Rattle.ht_feed.specs.Accounts.{telling_of};
+ghost use Rattle.ht_feed.specs.Consumers.{telling_of};
 ghost use Rattle.ht_feed.specs.Feeds.{Fails, TakesBlock};
 ghost use Rattle.ht_feed.specs.Feeding.{FeedsOn, feed_of, feeds_on-more, feeds_on-none, names, names_of};
 
-use crate::account::Account;
 use crate::answer::Answer;
 use crate::book_fault::BookFault;
-use crate::desk_feed::DeskFeed;
-use crate::desking::Desking;
+use crate::consumer::Consumer;
 use crate::feed::BlockFeed;
+use crate::in_flight_feed::InFlightFeed;
 use crate::jobs::Jobs;
+use crate::keeps_in_flight::KeepsInFlight;
 use crate::reader::BlockReader;
 use ht_io::Source;
 use std::marker::PhantomData;
 
-impl<'a, R: BlockReader + Drop, D: Desking<R>, S: Source, A: Account<R>> DeskFeed<'a, R, D, S, A> {
-    /// A feed which goes on from where its desk stands, and from what a call before it failed with, if one did. It
+impl<'a, R: BlockReader + Drop, D: KeepsInFlight<R>, S: Source, A: Consumer<R>> InFlightFeed<
+    'a,
+    R,
+    D,
+    S,
+    A,
+> {
+    /// A feed which goes on from where its in-flight reader stands, and from what a call before it failed with, if one did. It
     /// takes no memory.
     pub fn new(
-        desk: &'a mut D,
+        in_flight: &'a mut D,
         source: &'a mut S,
-        account: &'a mut A,
+        consumer: &'a mut A,
         failed: &'a mut Option<BookFault>,
-    ) -> DeskFeed<'a, R, D, S, A>
+    ) -> InFlightFeed<'a, R, D, S, A>
         ensures names { names_of A.lent result
-            ≡ names desk.entry.ghost_name source.entry.ghost_name account.entry.ghost_name failed.entry.ghost_name (A.lent account.old) }
-        ensures desk { result.desk.now ≡ desk.old }
+            ≡ names in_flight.entry.ghost_name source.entry.ghost_name consumer.entry.ghost_name failed.entry.ghost_name (A.lent consumer.old) }
+        ensures in_flight { result.in_flight.now ≡ in_flight.old }
         ensures source { result.source.now ≡ source.old }
-        ensures account { result.account.now ≡ account.old }
+        ensures consumer { result.consumer.now ≡ consumer.old }
         ensures failed { result.failed.now ≡ failed.old }
     {
-        DeskFeed {
-            desk,
+        InFlightFeed {
+            in_flight,
             source,
-            account,
+            consumer,
             failed,
             of: PhantomData,
         }
     }
 }
 
-impl<'a, R: BlockReader + Drop, D: Desking<R>, S: Source, A: Account<R>> BlockFeed
-    for DeskFeed<'a, R, D, S, A> {
+impl<'a, R: BlockReader + Drop, D: KeepsInFlight<R>, S: Source, A: Consumer<R>> BlockFeed
+    for InFlightFeed<'a, R, D, S, A> {
     type Fault = BookFault;
 
     type Block = R::Block;
@@ -57,7 +63,7 @@ impl<'a, R: BlockReader + Drop, D: Desking<R>, S: Source, A: Account<R>> BlockFe
         if let Some(fault) = *self.failed {
             return Err(fault);
         }
-        match self.desk.next(most, self.source) {
+        match self.in_flight.next(most, self.source) {
             Ok(given) => Ok(given),
             Err(_) => {
                 *self.failed = Some(BookFault::NoMemory);
@@ -76,7 +82,7 @@ impl<'a, R: BlockReader + Drop, D: Desking<R>, S: Source, A: Account<R>> BlockFe
         if let Some(fault) = *self.failed {
             return Err(fault);
         }
-        match self.desk.take(block, answer, self.account) {
+        match self.in_flight.take(block, answer, self.consumer) {
             Ok(()) => Ok(()),
             Err(fault) => {
                 *self.failed = Some(fault);

@@ -1,9 +1,9 @@
-//! An account that puts how far hits are.
+//! A consumer that puts how far hits are.
 ghost use Rattle.std.specs.Prelude.{◌≡◌, [], map, refl, IfOk};
 ghost use Rattle.ht_feed.specs.Meters.{octet_of, octets_of};
 
-use crate::account::Account;
 use crate::book_fault::BookFault;
+use crate::consumer::Consumer;
 use crate::due_block::DueBlock;
 use crate::hits::Hits;
 use crate::reader::BlockReader;
@@ -40,7 +40,7 @@ fn octets(alloc: Global, found: &[Found]) -> Result<Vec<u8>, AllocError>
     Ok(octets)
 }
 
-impl<R: BlockReader, K: Sink> Account<R> for Meter<K> {
+impl<R: BlockReader, K: Sink> Consumer<R> for Meter<K> {
     type Piece = u8;
 
     type Answer = Hits;

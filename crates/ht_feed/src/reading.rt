@@ -1,6 +1,6 @@
 //! Reading on to the next block.
 ghost use Rattle.std.specs.Prelude.{◌≡◌, ◌+◌, ◌-◌, ◌^◌, ◌<◌, ◌≤◌, [], None, Some, true, length, IfErr, IfOk};
-ghost use Rattle.ht_feed.specs.Desks.{standing};
+ghost use Rattle.ht_feed.specs.InFlights.{standing};
 ghost use Rattle.ht_feed.specs.Dues.{due_of, headed_due};
 ghost use Rattle.ht_feed.specs.Reading.{CountsBlock, Finds, begun};
 

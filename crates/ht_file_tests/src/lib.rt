@@ -33,7 +33,7 @@ mod files;
 #[cfg(test)]
 mod sim;
 
-// Captures: job by job, in blocks, through a desk, and written.
+// Captures: job by job, in blocks, through an in-flight reader, and written.
 #[cfg(test)]
 mod capture;
 #[cfg(test)]
@@ -41,7 +41,7 @@ mod capture_symbol_blocks;
 #[cfg(test)]
 mod capture_writing;
 #[cfg(test)]
-mod desks;
+mod in_flights;
 
 // Certificates.
 #[cfg(test)]

@@ -9,7 +9,7 @@ use Rattle.ht_io.specs.Devices.{Device, Grows, GrowsByPart, IsLater, Rose}
 use Rattle.ht_io.proofs.Calls.{failed-later, grows-append, grows-none, grows_by_part-append, grows_by_part-front}
 use Rattle.ht_feed.specs.declared.book_fault.BookFault.{BookFault}
 use Rattle.ht_feed.specs.declared.book_fault.BookFault.TheVariants.{Failed}
-use Rattle.ht_feed.specs.Accounts.{BooksJobs, PutsBlock, PutsPartOf}
+use Rattle.ht_feed.specs.Consumers.{BooksJobs, PutsBlock, PutsPartOf}
 use Rattle.ht_feed.specs.Items.{Headed}
 use Rattle.ht_frames.specs.Gathering.{BooksFirst, WaitForJobs, behind_one, booked_behind, booked_whole, finished}
 

@@ -9,7 +9,7 @@ use Rattle.ht_metric.specs.declared.found.Found.{Found}
 use Rattle.ht_metric.specs.declared.place.Place.{Place}
 use Rattle.ht_metric.specs.Jobs.{JobView, near}
 use Rattle.ht_feed.specs.declared.book_fault.BookFault.{BookFault}
-use Rattle.ht_feed.specs.Accounts.{BooksJobs, PutsBlock, PutsPartOf}
+use Rattle.ht_feed.specs.Consumers.{BooksJobs, PutsBlock, PutsPartOf}
 use Rattle.ht_feed.specs.Dues.{IsPlaceAt}
 use Rattle.ht_feed.specs.Items.{Headed, headed_of}
 use Rattle.ht_feed.specs.Leading.{part-on, puts-on}

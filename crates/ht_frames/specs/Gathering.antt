@@ -5,7 +5,7 @@ use Rattle.std.proofs.Common.{ap, refl, sym, ◌∙◌}
 use Rattle.std.proofs.lemmas.Option.{none-some}
 use Rattle.ht_io.specs.Devices.{Device, Grows, GrowsByPart}
 use Rattle.ht_feed.specs.declared.book_fault.BookFault.{BookFault}
-use Rattle.ht_feed.specs.Accounts.{BooksJobs, CountsFaults}
+use Rattle.ht_feed.specs.Consumers.{BooksJobs, CountsFaults}
 use Rattle.ht_feed.specs.Items.{Headed}
 pub use Rattle.ht_results.specs.Plans.{finished}
 

@@ -1,7 +1,7 @@
 //! Whole frames are decoded while more jobs come, and their results are booked in order.
 ghost use Rattle.std.specs.Prelude.{◌≡◌, ◌≤◌, ◌∷◌, [], ◌++◌, false, None, length, option_to_list, IfOk, OnErr, OnOk};
 ghost use Rattle.ht_io.specs.Devices.{GrowsByPart};
-ghost use Rattle.ht_feed.specs.Accounts.{CountsFaults};
+ghost use Rattle.ht_feed.specs.Consumers.{CountsFaults};
 ghost use Rattle.ht_frames.specs.Gathering.{BooksFirst, BooksPieces, booked_whole};
 
 use crate::book::Book;

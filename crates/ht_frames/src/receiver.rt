@@ -1,4 +1,4 @@
-//! An account that books the result of each frame.
+//! A consumer that books the result of each frame.
 ghost use Rattle.std.specs.Prelude.{◌≡◌, ◌∷◌, []};
 ghost use Rattle.ht_frames.specs.Gathering.{booked_in, none_booked};
 
@@ -7,7 +7,7 @@ use crate::decodes::{Decodes, take_block};
 use crate::under_way::UnderWay;
 use crate::whole_frame::WholeFrame;
 use circular_buffer::HeapCircularBuffer;
-use ht_feed::{Account, BlockReader, BookFault, DueBlock};
+use ht_feed::{BlockReader, BookFault, Consumer, DueBlock};
 use std::alloc::Global;
 
 /// Books the result of each frame in a book, once the tally with its last job was taken.
@@ -63,7 +63,7 @@ impl<
     R: BlockReader<Head = U::Head>,
     U: UnderWay,
     B: Book<<U::Whole as WholeFrame>::Result>,
-> Account<R> for Receiver<'a, U, B> {
+> Consumer<R> for Receiver<'a, U, B> {
     type Piece = B::Piece;
 
     type Answer = U::Answer;

@@ -1,4 +1,4 @@
--- What it comes to that a lane over a new desk ran to its end, or as far as memory lasted.
+-- What it comes to that a lane over a new in-flight reader ran to its end, or as far as memory lasted.
 use Rattle.std.specs.Prelude.{◌≡◌, ◌≢◌, ℕ, List, [], Option, Some, None, true, false, is_some, Result, Err}
 use Rattle.std.proofs.Common.{refl, sym, subst}
 use Rattle.ht_io.specs.Devices.{Device, GrowsByPart, IsLater}
@@ -11,19 +11,19 @@ use Rattle.ht_feed.specs.declared.ended.Ended.{Ended}
 use Rattle.ht_feed.specs.declared.book_fault.BookFault.{BookFault}
 use Rattle.ht_feed.specs.declared.book_fault.BookFault.TheVariants.{Failed, NoMemory}
 use Rattle.ht_feed.specs.Items.{Item}
-use Rattle.ht_feed.specs.Accounts.{Telling}
+use Rattle.ht_feed.specs.Consumers.{Telling}
 use Rattle.ht_feed.specs.Dues.{all_due, jobs_in}
-use Rattle.ht_feed.specs.Desks.{DeskView, desk_view}
+use Rattle.ht_feed.specs.InFlights.{InFlightView, in_flight_view}
 use Rattle.ht_feed.specs.Outcomes.{Comes}
 use Rattle.ht_feed.specs.Telling.{Seen, Tells, TellsBy, TellsPart, seen_by}
 use Rattle.ht_feed.proofs.Finishing.{Heard, heard, puts_later, reads_later, runs_so, steady}
-use Rattle.ht_lanes.specs.DeskLanes.{driven_so, ended_so, is_over}
+use Rattle.ht_lanes.specs.InFlightLanes.{driven_so, ended_so, is_over}
 
--- readers of R mean this and are here; a reader in front of its source, and its account; and what a lane over a new desk left
+-- readers of R mean this and are here; a reader in front of its source, and its consumer; and what a lane over a new in-flight reader left
 module _ {R H P : Type 0} (means : R → List ℕ → Meaning (Item H)) (at : R → ℕ) (reader : R) (head : H) (source source' : Device ℕ) (a b : Telling H P)
-    (new : DeskView R H) where
+    (new : InFlightView R H) where
   abbrev first : Seen H P
-  first = seen_by means at (desk_view reader None head 0 [] 0) source a
+  first = seen_by means at (in_flight_view reader None head 0 [] 0) source a
 
   abbrev last : Seen H P
   last = seen_by means at new source' b
@@ -31,10 +31,10 @@ module _ {R H P : Type 0} (means : R → List ℕ → Meaning (Item H)) (at : R 
   abbrev Came : Result Ended RunFault → Type 0
   Came result = Comes means at reader head source source' a b result
 
-  -- a call failed so, seen by any account in front of a device
-  ill : (account : Telling H P) (fault : BookFault) → TellsPart first (seen_by means at new source' account) fault
-      → Heard means at reader head source source' a account new (Some fault) (driven_so (Some fault))
-  ill account fault told = runs_so (driven_so (Some fault)) told tt tt
+  -- a call failed so, seen by any consumer in front of a device
+  ill : (consumer : Telling H P) (fault : BookFault) → TellsPart first (seen_by means at new source' consumer) fault
+      → Heard means at reader head source source' a consumer new (Some fault) (driven_so (Some fault))
+  ill consumer fault told = runs_so (driven_so (Some fault)) told tt tt
 
   -- none failed, and the reading stopped
   well : TellsBy None None first last → is_some new.stop ≡ true → jobs_in new.due ≡ [] → Heard means at reader head source source' a b new None (driven_so None)

@@ -2,7 +2,7 @@ pub mod Numbering
 pub mod Rings
 pub mod Asked
 pub mod Finished
-pub mod DeskCalls
+pub mod InFlightCalls
 pub mod LaneEnds
 pub mod OneLane
 pub mod EachLane

@@ -1,5 +1,5 @@
 pub mod Lanes
 pub mod Calls
 pub mod Leading
-pub mod DeskLanes
-pub mod Bookings
+pub mod InFlightLanes
+pub mod LaneConsumers

@@ -10,9 +10,9 @@
 //! What the feed leads to is said by a relation that sees one lane with its own source and sink (`AllLead` in
 //! `specs/Lanes.antt`). So nothing is said of an order, and nothing said of one lane mentions another.
 //!
-//! A [`DeskLane`] is a lane over the desk of a reader, and a [`Booking`] says what becomes of its hits. Its relation is that
-//! of a feed over one desk (`TellsBy` of crate `ht_feed`), so all that is said there of whole inputs, faults, failing sources
-//! and lack of memory holds of it.
+//! An [`InFlightLane`] is a lane over an in-flight reader, and a [`LaneConsumer`] says what becomes of its hits. Its relation is
+//! that of a feed over one in-flight reader (`TellsBy` of crate `ht_feed`), so all that is said there of whole inputs, faults,
+//! failing sources and lack of memory holds of it.
 //!
 //! Of two lanes with three and one blocks of two jobs, say, the four blocks have the jobs 0 and 1, 2 and 3, 4 and 5,
 //! and 6 and 7 of all lanes. The one lane numbers its own jobs from 0 to 5, and the other from 0 to 1. No clause says
@@ -20,22 +20,22 @@
 #![tactic(auto)]
 
 mod asking;
-mod booking;
-mod desk_lane;
 mod driving;
 mod finishing;
 mod giving;
+mod in_flight_lane;
 mod lane;
 mod lane_block;
+mod lane_consumer;
 mod lane_due;
 mod lanes;
 mod settling;
 
-pub use booking::Booking;
-pub use desk_lane::DeskLane;
 pub use driving::drive_lanes_alone;
 pub use finishing::finish_lanes;
+pub use in_flight_lane::InFlightLane;
 pub use lane::Lane;
 pub use lane_block::LaneBlock;
+pub use lane_consumer::LaneConsumer;
 pub use lane_due::LaneDue;
 pub use lanes::Lanes;

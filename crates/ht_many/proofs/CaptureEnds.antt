@@ -12,8 +12,8 @@ use Rattle.ht_runs.specs.declared.faults.RunFault.{RunFault}
 use Rattle.ht_runs.specs.declared.faults.RunFault.TheVariants.{Format, Read, Write, NoMemory}
 use Rattle.ht_feed.specs.declared.ended.Ended.{Ended}
 use Rattle.ht_feed.specs.declared.book_fault.BookFault.{BookFault}
-use Rattle.ht_feed.specs.Accounts.{Telling}
-use Rattle.ht_feed.specs.Desks.{DeskView, desk_view}
+use Rattle.ht_feed.specs.Consumers.{Telling}
+use Rattle.ht_feed.specs.InFlights.{InFlightView, in_flight_view}
 use Rattle.ht_feed.specs.Outcomes.{Comes}
 use Rattle.ht_feed.specs.Telling.{TellsBy, seen_by}
 use Rattle.ht_results.specs.Texts.{frame_lines_of, result_line, rx_text}
@@ -21,7 +21,7 @@ use Rattle.ht_rx.specs.Outcomes.{StopsBy, TellsTo}
 use Rattle.ht_rx.proofs.Blocks.{comes_to}
 use Rattle.ht_rx.proofs.BlockBooking.{gathered_told}
 use Rattle.ht_rx.proofs.Booking.{lines_told}
-use Rattle.ht_lanes.specs.DeskLanes.{lane_telling}
+use Rattle.ht_lanes.specs.InFlightLanes.{lane_telling}
 use Rattle.ht_lanes.specs.Lanes.{AreFinished, AreOver, HaveNone, RunsLanes, Side, Sides, side_at}
 use Rattle.ht_lanes.proofs.LaneEnds.{lane_ends, lane_lacks, lane_puts_later, lane_reads_later, lane_steady}
 use Rattle.ht_lanes.proofs.OneLane.{past_both, some_of}
@@ -72,27 +72,27 @@ module _ {S K : Type 0} (source : S → Device ℕ) (sink : K → Device ℕ) wh
   -- a new lane did this
   module _ (a b : Side Lane S K) (new : IsNew a.lane) (leads : LaneLeads source sink a b) where
     abbrev before : Telling FrameHead ℕ
-    before = lane_telling lines_left a.lane.booking (sink a.sink)
+    before = lane_telling lines_left a.lane.consumer (sink a.sink)
 
     abbrev after : Telling FrameHead ℕ
-    after = lane_telling lines_left b.lane.booking (sink b.sink)
+    after = lane_telling lines_left b.lane.consumer (sink b.sink)
 
     from_new : TellsBy None b.lane.failed
-        (seen_by reader_means reader_at (desk_view new.reader None new.head 0 [] 0) (source a.source) before) (lane_seen source sink b)
+        (seen_by reader_means reader_at (in_flight_view new.reader None new.head 0 [] 0) (source a.source) before) (lane_seen source sink b)
     from_new =
-        subst (λ (d : DeskView CaptureReader FrameHead). TellsBy None b.lane.failed
-        (seen_by reader_means reader_at d (source a.source) before) (lane_seen source sink b)) new.desk
+        subst (λ (d : InFlightView CaptureReader FrameHead). TellsBy None b.lane.failed
+        (seen_by reader_means reader_at d (source a.source) before) (lane_seen source sink b)) new.in_flight
         (subst (λ (f : Option BookFault). TellsBy f b.lane.failed (lane_seen source sink a) (lane_seen source sink b)) new.well leads)
 
-    -- what a run of any reader and account came to is said of the octets of the capture
+    -- what a run of any reader and consumer came to is said of the octets of the capture
     came_heard : (answer : Result Ended RunFault)
         → Comes reader_means reader_at new.reader new.head (source a.source) (source b.source) before after answer
         → Heard (source a.source) (source b.source) (sink a.sink) (sink b.sink) answer
     came_heard answer came =
-        let none : a.lane.booking.under_way.left ≤ 0 = let e = new.none in omega (arith, e) in
+        let none : a.lane.consumer.under_way.left ≤ 0 = let e = new.none in omega (arith, e) in
         told_heard (source a.source) (source b.source) (sink a.sink) (sink b.sink) answer
         (lines_told answer (source a.source) (source b.source) (sink a.sink) (sink b.sink)
-        (gathered_told result_line a.lane.booking.whole a.lane.booking.under_way answer (source a.source) (source b.source) (sink a.sink) (sink b.sink)
+        (gathered_told result_line a.lane.consumer.whole a.lane.consumer.under_way answer (source a.source) (source b.source) (sink a.sink) (sink b.sink)
         new.fresh none
         (comes_to reader_means reader_at new.reader new.head (source a.source) (source b.source) before after answer
         new.means new.at came)))
@@ -102,13 +102,13 @@ module _ {S K : Type 0} (source : S → Device ℕ) (sink : K → Device ℕ) wh
     side_heard over taken finished =
         came_heard (lane_answer b.lane)
         (lane_ends reader_means reader_at new.reader new.head (source a.source) (source b.source) before after
-        b.lane.desk tt b.lane.failed from_new over taken finished)
+        b.lane.in_flight tt b.lane.failed from_new over taken finished)
 
     side_steady : lane_over b.lane ≡ true → (lane_rests b.lane ≡ false → lane_due b.lane ≡ []) → lane_answer b.lane ≢ Err Write
         → (sink b.sink).faults ≡ (sink a.sink).faults
     side_steady over taken other =
         lane_steady reader_means reader_at new.reader new.head (source a.source) (source b.source) before after
-        b.lane.desk b.lane.failed from_new over taken other
+        b.lane.in_flight b.lane.failed from_new over taken other
 
     -- memory lacked, here or elsewhere
     side_part : PutsPieces (source a.source) (source b.source) (sink a.sink) (sink b.sink)
@@ -116,17 +116,17 @@ module _ {S K : Type 0} (source : S → Device ℕ) (sink : K → Device ℕ) wh
         heard_part (source a.source) (source b.source) (sink a.sink) (Err NoMemory) (sink b.sink)
         (came_heard (Err NoMemory)
         (lane_lacks reader_means reader_at new.reader new.head (source a.source) (source b.source) before after
-        b.lane.desk tt b.lane.failed from_new))
+        b.lane.in_flight tt b.lane.failed from_new))
 
     side_reads_later : IsLater (source a.source) (source b.source)
     side_reads_later =
         lane_reads_later reader_means reader_at new.reader new.head (source a.source) (source b.source) before after
-        b.lane.desk b.lane.failed from_new
+        b.lane.in_flight b.lane.failed from_new
 
     side_puts_later : IsLater (sink a.sink) (sink b.sink)
     side_puts_later =
         lane_puts_later reader_means reader_at new.reader new.head (source a.source) (source b.source) before after
-        b.lane.desk b.lane.failed from_new
+        b.lane.in_flight b.lane.failed from_new
 
   -- nothing was taken or put
   pub none_taken : (sources : List S) (sinks : List K) → EachInPart source sink (devices sources sinks) (devices sources sinks)

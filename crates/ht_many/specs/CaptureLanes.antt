@@ -10,18 +10,18 @@ use Rattle.ht_capture_blocks.specs.declared.reader.CaptureReader.{CaptureReader}
 use Rattle.ht_capture_blocks.specs.Captures.{capture_at, capture_means, mapped}
 use Rattle.ht_runs.specs.declared.faults.RunFault.{RunFault}
 use Rattle.ht_feed.specs.declared.ended.Ended.{Ended}
-use Rattle.ht_feed.specs.Desks.{desk_view}
+use Rattle.ht_feed.specs.InFlights.{in_flight_view}
 use Rattle.ht_feed.specs.Dues.{jobs_in}
 use Rattle.ht_feed.specs.Items.{Item}
 use Rattle.ht_feed.specs.Telling.{Seen}
-use Rattle.ht_lanes.specs.declared.desk_lane.DeskLane.{DeskLane}
-use Rattle.ht_lanes.specs.DeskLanes.{LeadsOn, ended_so, is_over, seen_of}
+use Rattle.ht_lanes.specs.declared.in_flight_lane.InFlightLane.{InFlightLane}
+use Rattle.ht_lanes.specs.InFlightLanes.{LeadsOn, ended_so, is_over, seen_of}
 use Rattle.ht_lanes.specs.Lanes.{AllLead, Side, Sides}
 use Rattle.ht_many.specs.KeptFrames.{KeptFrames, lines_left}
 
 -- a lane of a capture, as contracts see it, whatever it keeps of its frames
 abbrev pub LaneOf : Type 0 → Type 0
-LaneOf K = DeskLane CaptureReader K FrameHead CaptureBlock
+LaneOf K = InFlightLane CaptureReader K FrameHead CaptureBlock
 
 abbrev pub Lane : Type 0
 Lane = LaneOf KeptFrames
@@ -39,18 +39,18 @@ module _ {K : Type 0} where
   lane_rests l = is_some l.failed
 
   abbrev pub lane_over : LaneOf K → Bool
-  lane_over l = is_over l.failed l.desk.stop
+  lane_over l = is_over l.failed l.in_flight.stop
 
   abbrev pub lane_due : LaneOf K → List (List JobView)
-  lane_due l = jobs_in l.desk.due
+  lane_due l = jobs_in l.in_flight.due
 
   -- what the receiving of its capture came to
   abbrev pub lane_answer : LaneOf K → Result Ended RunFault
-  lane_answer l = ended_so l.failed l.desk.stop l.desk.frames l.desk.count
+  lane_answer l = ended_so l.failed l.in_flight.stop l.in_flight.frames l.in_flight.count
 
 -- no line of a whole frame is still to be put
 abbrev pub lane_finished : Lane → Type 0
-lane_finished l = lines_left l.booking [] ≡ []
+lane_finished l = lines_left l.consumer [] ≡ []
 
 -- how contracts see the source and the sink of a lane
 module _ {S K : Type 0} (source : S → Device ℕ) (sink : K → Device ℕ) where
@@ -69,11 +69,11 @@ module _ {S K : Type 0} (source : S → Device ℕ) (sink : K → Device ℕ) wh
 pub record IsNew (l : Lane) : Type 0 where
   pub reader : CaptureReader
   pub head : FrameHead
-  pub desk : l.desk ≡ desk_view reader None head 0 [] 0
+  pub in_flight : l.in_flight ≡ in_flight_view reader None head 0 [] 0
   pub means : (octets : List ℕ) → reader_means reader octets ≡ mapped (capture_of octets)
   pub at : reader_at reader ≡ 0
-  pub none : l.booking.under_way.left ≡ 0
-  pub fresh : l.booking.whole ≡ []
+  pub none : l.consumer.under_way.left ≡ 0
+  pub fresh : l.consumer.whole ≡ []
   pub well : l.failed ≡ None
 
 abbrev pub AreNew : List Lane → Type 0

@@ -9,7 +9,7 @@ use crate::gathered_lines::GatheredLines;
 use ht_capture_blocks::CaptureReader;
 use ht_feed::Ended;
 use ht_frames::{Frames, Whole};
-use ht_lanes::DeskLane;
+use ht_lanes::InFlightLane;
 use ht_results::no_head;
 use ht_runs::RunFault;
 use ht_rx::HardLabels;
@@ -17,17 +17,17 @@ use std::alloc::{AllocError, Global};
 
 /// What receives one capture among several in one thread: the reader of its octets, the blocks that are due, and the
 /// frame under way.
-pub(crate) type CaptureLane = DeskLane<CaptureReader, FrameLines<CaptureReader>>;
+pub(crate) type CaptureLane = InFlightLane<CaptureReader, FrameLines<CaptureReader>>;
 
 /// The same beside workers, who decode whole frames of it.
-pub(crate) type CrewLane<'f, R> = DeskLane<CaptureReader, GatheredLines<'f, R>>;
+pub(crate) type CrewLane<'f, R> = InFlightLane<CaptureReader, GatheredLines<'f, R>>;
 
 // A lane that has read nothing. It has room for one block that is due, and takes more memory where more become due.
 fn open_lane(alloc: Global) -> Result<CaptureLane, AllocError>
     ensures { IfOk result IsNew }
 {
     let reader = CaptureReader::new(alloc)?;
-    DeskLane::new(alloc, reader, no_head(), 1, FrameLines::new(alloc))
+    InFlightLane::new(alloc, reader, no_head(), 1, FrameLines::new(alloc))
 }
 
 /// This many lanes that have read nothing. The only error is lack of memory.
@@ -53,7 +53,7 @@ fn open_crew_lane<'f, R>(
 {
     let reader = CaptureReader::new(alloc)?;
     let lines = GatheredLines::new(rt, alloc, workers, frames);
-    DeskLane::new(alloc, reader, no_head(), 1, lines)
+    InFlightLane::new(alloc, reader, no_head(), 1, lines)
 }
 
 /// This many lanes that have read nothing, beside a crew of 1 to 64 workers, of which the caller is one. The workers find
@@ -78,7 +78,7 @@ pub(crate) fn open_crew_lanes<'f, R>(
 /// How the receiving of each capture ended, once all lanes are over. The only error is lack of memory.
 pub(crate) fn answers_of<A: Drop>(
     alloc: Global,
-    lanes: &[DeskLane<CaptureReader, A>],
+    lanes: &[InFlightLane<CaptureReader, A>],
 ) -> Result<Vec<Result<Ended, RunFault>>, AllocError>
     requires over { AreOver lane_over 0 lanes.now }
     ensures { IfOk result (λ answers. answers.items ≡ map lane_answer lanes.now) }

@@ -9,14 +9,14 @@ use crate::finishing::finish;
 use crate::many_end::ManyEnd;
 use ht_capture_blocks::CaptureReader;
 use ht_io::Sink;
-use ht_lanes::DeskLane;
+use ht_lanes::InFlightLane;
 use std::alloc::{AllocError, Global};
 
 /// Puts the last line of each capture, and tells how it ended, once all lanes are over. The only error is lack of
 /// memory.
 pub(crate) fn end_all<A: Drop, K: Sink>(
     alloc: Global,
-    lanes: &[DeskLane<CaptureReader, A>],
+    lanes: &[InFlightLane<CaptureReader, A>],
     sinks: &mut [K],
 ) -> Result<Vec<ManyEnd>, AllocError>
     requires over { AreOver lane_over 0 lanes.now }

@@ -4,15 +4,15 @@ ghost use Rattle.ht_feed.specs.Dues.{jobs_in};
 ghost use Rattle.ht_frames.specs.Tallies.{IsTally};
 ghost use Rattle.ht_results.specs.Folding.{label_plan};
 ghost use Rattle.std.proofs.Common.{refl};
-ghost use Rattle.ht_lanes.specs.Bookings.{BooksFirstDue};
+ghost use Rattle.ht_lanes.specs.LaneConsumers.{BooksFirstDue};
 ghost use Rattle.ht_frames.proofs.Tallying.{numberless};
 ghost use Rattle.ht_many.specs.KeptFrames.{booked_left, lines_left};
 
 use ht_capture::FrameHead;
-use ht_feed::{BlockReader, BookFault, Desk, Desking};
+use ht_feed::{BlockReader, BookFault, InFlight, KeepsInFlight};
 use ht_frames::{Book, Frame, Receiver, Tally, TextBook};
 use ht_io::Sink;
-use ht_lanes::Booking;
+use ht_lanes::LaneConsumer;
 use ht_results::FrameResult;
 use ht_rx::HardLabels;
 use std::alloc::Global;
@@ -65,39 +65,39 @@ impl<R: BlockReader<Head = FrameHead> + Drop> FrameLines<R> {
     // Takes the tally of the first block due, and books the results of frames that are whole with them.
     fn take_into<B: Book<FrameResult>>(
         &mut self,
-        desk: &mut Desk<R>,
+        in_flight: &mut InFlight<R>,
         block: &R::Block,
         tally: &Tally<HardLabels>,
         book: &mut B,
     ) -> Result<(), BookFault>
         requires right { IsTally label_plan tally.now.head
             (R.Block.jobs block.now) tally.now.jobs tally.now.data_sum tally.now.pilot_sum tally.now.places tally.now.values.items }
-        requires first { slice_get (jobs_in desk.old.due) 0 ≡ Some (R.Block.jobs block.now) }
+        requires first { slice_get (jobs_in in_flight.old.due) 0 ≡ Some (R.Block.jobs block.now) }
 
-        ensures books { BooksFirstDue result desk.old desk.new (B.shown book.old) (B.shown book.new)
+        ensures books { BooksFirstDue result in_flight.old in_flight.new (B.shown book.old) (B.shown book.new)
             (booked_left B.booked self.old) (booked_left B.booked self.new) }
         ensures none { self.new.whole ≡ [] }
         ensures same { B.lent book.new ≡ B.lent book.old }
     {
         let mut receiver = Receiver::new(self.alloc, &mut self.under_way, book);
-        desk.take(block, tally, &mut receiver)
+        in_flight.take(block, tally, &mut receiver)
     }
 }
 
-impl<R: BlockReader<Head = FrameHead> + Drop, K: Sink> Booking<R, K> for FrameLines<R> {
+impl<R: BlockReader<Head = FrameHead> + Drop, K: Sink> LaneConsumer<R, K> for FrameLines<R> {
     type Answer = Tally<HardLabels>;
 
     ghost pieces = { lines_left };
 
     fn take(
         &mut self,
-        desk: &mut Desk<R>,
+        in_flight: &mut InFlight<R>,
         block: &R::Block,
         tally: &Tally<HardLabels>,
         sink: &mut K,
     ) -> Result<(), BookFault> {
         let mut book = TextBook::new(self.alloc, sink);
-        self.take_into(desk, block, tally, &mut book)
+        self.take_into(in_flight, block, tally, &mut book)
     }
 
     fn finish(&mut self, _sink: &mut K) -> Result<(), BookFault> {

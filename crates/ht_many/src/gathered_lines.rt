@@ -1,22 +1,22 @@
 //! What becomes of the tallies of one capture among several, where workers decode whole frames.
 ghost use Rattle.std.specs.Prelude.{◌≡◌, [], slice_get, Some, OnOk};
-ghost use Rattle.ht_feed.specs.Accounts.{BooksJobs};
+ghost use Rattle.ht_feed.specs.Consumers.{BooksJobs};
 ghost use Rattle.ht_feed.specs.Dues.{jobs_in};
 ghost use Rattle.ht_feed.specs.Limits.{IsCrewSize};
 ghost use Rattle.ht_capture.specs.Parts.{jobs_of};
 ghost use Rattle.ht_frames.specs.Tallies.{IsTally};
 ghost use Rattle.ht_results.specs.Folding.{label_plan};
 ghost use Rattle.std.proofs.Common.{refl};
-ghost use Rattle.ht_lanes.specs.Bookings.{BooksFirstDue};
+ghost use Rattle.ht_lanes.specs.LaneConsumers.{BooksFirstDue};
 ghost use Rattle.ht_many.specs.KeptFrames.{booked_left, lines_left};
 ghost use Rattle.ht_frames.proofs.Tallying.{numberless};
 
 use crate::keeping_lines::KeepingLines;
 use ht_capture_blocks::{CaptureBlock, CaptureReader};
-use ht_feed::{BookFault, Desk, Desking};
+use ht_feed::{BookFault, InFlight, KeepsInFlight};
 use ht_frames::{Book, Decoding, Frame, Frames, Tally, TextBook, Whole, book_frames};
 use ht_io::Sink;
-use ht_lanes::Booking;
+use ht_lanes::LaneConsumer;
 use ht_results::FrameResult;
 use ht_rx::HardLabels;
 use std::alloc::Global;
@@ -82,16 +82,16 @@ impl<'f, R: Threads + Wait> GatheredLines<'f, R> {
     // Takes the tally of the first block due, and books the results of the frames whose turn it is.
     fn take_into<B: Book<FrameResult>>(
         &mut self,
-        desk: &mut Desk<CaptureReader>,
+        in_flight: &mut InFlight<CaptureReader>,
         block: &CaptureBlock,
         tally: &Tally<HardLabels>,
         book: &mut B,
     ) -> Result<(), BookFault>
         requires right { IsTally label_plan tally.now.head
             (jobs_of block.now.block) tally.now.jobs tally.now.data_sum tally.now.pilot_sum tally.now.places tally.now.values.items }
-        requires first { slice_get (jobs_in desk.old.due) 0 ≡ Some (jobs_of block.now.block) }
+        requires first { slice_get (jobs_in in_flight.old.due) 0 ≡ Some (jobs_of block.now.block) }
 
-        ensures books { BooksFirstDue result desk.old desk.new (B.shown book.old) (B.shown book.new)
+        ensures books { BooksFirstDue result in_flight.old in_flight.new (B.shown book.old) (B.shown book.new)
             (booked_left B.booked self.old) (booked_left B.booked self.new) }
         ensures same { B.lent book.new ≡ B.lent book.old }
     {
@@ -99,13 +99,13 @@ impl<'f, R: Threads + Wait> GatheredLines<'f, R> {
             self.rt,
             self.alloc,
             self.workers,
-            desk.stop().is_some(),
+            in_flight.stop().is_some(),
             self.frames,
             &mut self.under_way,
             &mut self.queue,
             book,
         );
-        desk.take(block, tally, &mut lines)
+        in_flight.take(block, tally, &mut lines)
     }
 
     // Books the results of all whole frames.
@@ -119,20 +119,20 @@ impl<'f, R: Threads + Wait> GatheredLines<'f, R> {
     }
 }
 
-impl<'f, R: Threads + Wait, K: Sink> Booking<CaptureReader, K> for GatheredLines<'f, R> {
+impl<'f, R: Threads + Wait, K: Sink> LaneConsumer<CaptureReader, K> for GatheredLines<'f, R> {
     type Answer = Tally<HardLabels>;
 
     ghost pieces = { lines_left };
 
     fn take(
         &mut self,
-        desk: &mut Desk<CaptureReader>,
+        in_flight: &mut InFlight<CaptureReader>,
         block: &CaptureBlock,
         tally: &Tally<HardLabels>,
         sink: &mut K,
     ) -> Result<(), BookFault> {
         let mut book = TextBook::new(self.alloc, sink);
-        self.take_into(desk, block, tally, &mut book)
+        self.take_into(in_flight, block, tally, &mut book)
     }
 
     fn finish(&mut self, sink: &mut K) -> Result<(), BookFault> {

@@ -1,4 +1,4 @@
-//! An account that keeps whole frames back also where no other block is due yet.
+//! A consumer that keeps whole frames back also where no other block is due yet.
 ghost use Rattle.std.specs.Prelude.{◌≡◌, ◌∷◌};
 ghost use Rattle.ht_feed.specs.Limits.{IsCrewSize};
 ghost use Rattle.ht_frames.specs.Frames.{results_by};
@@ -8,7 +8,7 @@ ghost use Rattle.ht_results.specs.Folding.{label_plan, result_of, with_octets};
 use circular_buffer::HeapCircularBuffer;
 use ht_capture::FrameHead;
 use ht_capture_blocks::{CaptureBlock, CaptureReader};
-use ht_feed::{Account, BookFault, DueBlock};
+use ht_feed::{BookFault, Consumer, DueBlock};
 use ht_frames::{Book, Decoding, Frame, Frames, Tally, Whole, gather_block};
 use ht_results::FrameResult;
 use ht_rx::HardLabels;
@@ -17,7 +17,7 @@ use std::collections::VecDeque;
 use std::sync::Wait;
 use std::thread::Threads;
 
-/// Books the result of each frame in a book, and has workers decode whole frames, as a `Gatherer` of crate `ht_frames`
+/// Books the result of each frame in a book, and has workers decode whole frames, as a `ReceiverTogether` of crate `ht_frames`
 /// does. But it keeps them back whether or not another block is due, as long as its capture is read: blocks of other captures
 /// come in between. So it may end with whole frames in the queue, and its owner books them. With the last block due of a
 /// capture whose end was read, the caller decodes the frame that is whole then and books all, so that they don't count against
@@ -39,7 +39,7 @@ pub(crate) struct KeepingLines<'a, R, B> {
 }
 
 impl<'a, R, B> KeepingLines<'a, R, B> {
-    /// An account for this number of workers, of which the caller is one; `stopped` says that its capture is read no more. It
+    /// A consumer for this number of workers, of which the caller is one; `stopped` says that its capture is read no more. It
     /// books results in this book, and goes on from the frame that is under way and those that are whole. It takes no memory.
     pub(crate) fn new(
         rt: &'a R,
@@ -69,7 +69,7 @@ impl<'a, R, B> KeepingLines<'a, R, B> {
     }
 }
 
-impl<'a, R: Threads + Wait, B: Book<FrameResult>> Account<CaptureReader>
+impl<'a, R: Threads + Wait, B: Book<FrameResult>> Consumer<CaptureReader>
     for KeepingLines<'a, R, B> {
     type Piece = B::Piece;
 

@@ -5,9 +5,9 @@ use Rattle.std.proofs.lemmas.List.{length-append, length-map}
 use Rattle.std.proofs.lemmas.List.Sums.{sum_by-append}
 use Rattle.ht_list.specs.Counts.{SameCounts}
 use Rattle.atomic_table.specs.Seated.{TableId}
-use Rattle.ht_pool.specs.Seats.{DequeId, SeatView, OwnView, fresh_seat, fresh_own, popped_from, deques_at, taken_at, Steals}
+use Rattle.ht_pool.specs.Takers.{DequeId, TakerView, OwnView, fresh_taker, fresh_own, popped_from, deques_at, taken_at, Steals}
 use Rattle.ht_pool.proofs.Lists.{written_back}
-use Rattle.ht_pool.specs.Helms.{HelmView, helm_view, unused, TakesBack}
+use Rattle.ht_pool.specs.Callers.{CallerView, caller_view, unused, TakesBack}
 
 pub ones : {X : Type 0} (xs : List X) → sum_by (λ _. 1) xs ≡ length xs
 ones [] = refl
@@ -17,78 +17,78 @@ ones (x ∷ xs) = omega (arith, sum_by-append (λ _. 1) (x ∷ []) xs, ones xs)
 pub same_length : {X : Type 0} (xs ys : List X) → SameCounts xs ys → length xs ≡ length ys
 same_length xs ys same = omega (arith, same (λ _. 1), ones xs, ones ys)
 
-module _ {T : Type 0} (seats : List (SeatView T)) (own own' : OwnView T) (task : T) where
+module _ {T : Type 0} (takers : List (TakerView T)) (own own' : OwnView T) (task : T) where
   -- from one's own deque
-  pub took-own : own' ≡ popped_from own task → SameCounts (own'.taken ++ taken_at seats) ((own.taken ++ taken_at seats) ++ task ∷ [])
+  pub took-own : own' ≡ popped_from own task → SameCounts (own'.taken ++ taken_at takers) ((own.taken ++ taken_at takers) ++ task ∷ [])
   took-own popped h = omega (
     arith,
     ap (λ (v : OwnView T). sum_by h v.taken) popped,
-    sum_by-append h own'.taken (taken_at seats),
-    sum_by-append h (own.taken ++ taken_at seats) (task ∷ []),
-    sum_by-append h own.taken (taken_at seats),
+    sum_by-append h own'.taken (taken_at takers),
+    sum_by-append h (own.taken ++ taken_at takers) (task ∷ []),
+    sum_by-append h own.taken (taken_at takers),
     sum_by-append h own.taken (task ∷ []),
   )
 
   -- from another's
-  pub took-other : (seats' : List (SeatView T)) → own' ≡ own → Steals seats seats' (Some task)
-      → SameCounts (own'.taken ++ taken_at seats') ((own.taken ++ taken_at seats) ++ task ∷ [])
-  took-other seats' still steals h = omega (
+  pub took-other : (takers' : List (TakerView T)) → own' ≡ own → Steals takers takers' (Some task)
+      → SameCounts (own'.taken ++ taken_at takers') ((own.taken ++ taken_at takers) ++ task ∷ [])
+  took-other takers' still steals h = omega (
     arith,
     ap (λ (v : OwnView T). sum_by h v.taken) still,
     steals.took h,
-    sum_by-append h own'.taken (taken_at seats'),
-    sum_by-append h (own.taken ++ taken_at seats) (task ∷ []),
-    sum_by-append h own.taken (taken_at seats),
+    sum_by-append h own'.taken (taken_at takers'),
+    sum_by-append h (own.taken ++ taken_at takers) (task ∷ []),
+    sum_by-append h own.taken (taken_at takers),
   )
 
 module _ {T A : Type 0} (queue : TableId) (answers : List A) where
-  pub takes-own : (own own' : OwnView T) (seats : List (SeatView T)) (task : T) → own' ≡ popped_from own task
-      → TakesBack (helm_view own seats queue answers) (helm_view own' seats queue answers) task
-  takes-own own own' seats task popped = record {
+  pub takes-own : (own own' : OwnView T) (takers : List (TakerView T)) (task : T) → own' ≡ popped_from own task
+      → TakesBack (caller_view own takers queue answers) (caller_view own' takers queue answers) task
+  takes-own own own' takers task popped = record {
     same = record { capacity_is = ap (λ (v : OwnView T). v.capacity) popped; deques_are = refl; queue_is = refl };
     given_is = ap (λ (v : OwnView T). v.pushed) popped;
-    took = took-own seats own own' task popped;
-    longer = same_length (own'.taken ++ taken_at seats) ((own.taken ++ taken_at seats) ++ task ∷ []) (took-own seats own own' task popped)
-        ∙ length-append (own.taken ++ taken_at seats) (task ∷ []);
+    took = took-own takers own own' task popped;
+    longer = same_length (own'.taken ++ taken_at takers) ((own.taken ++ taken_at takers) ++ task ∷ []) (took-own takers own own' task popped)
+        ∙ length-append (own.taken ++ taken_at takers) (task ∷ []);
     answers_are = refl;
   }
 
-  pub takes-other : (own : OwnView T) (seats seats' : List (SeatView T)) (task : Option T) → Steals seats seats' task
-      → IfSome task (TakesBack (helm_view own seats queue answers) (helm_view own seats' queue answers))
-  takes-other own seats seats' None steals = tt
-  takes-other own seats seats' (Some task) steals = record {
+  pub takes-other : (own : OwnView T) (takers takers' : List (TakerView T)) (task : Option T) → Steals takers takers' task
+      → IfSome task (TakesBack (caller_view own takers queue answers) (caller_view own takers' queue answers))
+  takes-other own takers takers' None steals = tt
+  takes-other own takers takers' (Some task) steals = record {
     same = record { capacity_is = refl; deques_are = steals.at; queue_is = refl };
     given_is = refl;
-    took = took-other seats own own task seats' refl steals;
-    longer = same_length (own.taken ++ taken_at seats') ((own.taken ++ taken_at seats) ++ task ∷ [])
-        (took-other seats own own task seats' refl steals) ∙ length-append (own.taken ++ taken_at seats) (task ∷ []);
+    took = took-other takers own own task takers' refl steals;
+    longer = same_length (own.taken ++ taken_at takers') ((own.taken ++ taken_at takers) ++ task ∷ [])
+        (took-other takers own own task takers' refl steals) ∙ length-append (own.taken ++ taken_at takers) (task ∷ []);
     answers_are = refl;
   }
 
   -- nothing was given or taken yet
-  pub taken-none : (deques : List DequeId) → taken_at {T = T} (map fresh_seat deques) ≡ []
+  pub taken-none : (deques : List DequeId) → taken_at {T = T} (map fresh_taker deques) ≡ []
   taken-none [] = refl
   taken-none (deque ∷ deques) = taken-none deques
 
-  pub new_helm : (own : OwnView T) (seats : List (SeatView T)) (parts : ℕ) → own ≡ fresh_own parts own.capacity own.deque
-      → seats ≡ map fresh_seat (deques_at seats) → answers ≡ [] → helm_view own seats queue answers ≡ unused own.capacity (deques_at seats) queue
-  new_helm own seats parts fresh seats_are none =
+  pub new_caller : (own : OwnView T) (takers : List (TakerView T)) (parts : ℕ) → own ≡ fresh_own parts own.capacity own.deque
+      → takers ≡ map fresh_taker (deques_at takers) → answers ≡ [] → caller_view own takers queue answers ≡ unused own.capacity (deques_at takers) queue
+  new_caller own takers parts fresh takers_are none =
       let given : own.pushed ≡ [] = ap (λ (v : OwnView T). v.pushed) fresh in
       let own_taken : own.taken ≡ [] = ap (λ (v : OwnView T). v.taken) fresh in
-      let seats_taken : taken_at seats ≡ [] = ap (λ (ss : List (SeatView T)). taken_at ss) seats_are ∙ taken-none (deques_at seats) in
-      let taken : own.taken ++ taken_at seats ≡ [] = ap (λ (xs : List T). xs ++ taken_at seats) own_taken ∙ seats_taken in
-      let at : List T → List T → List A → HelmView T A = λ xs ys zs. record {
+      let takers_taken : taken_at takers ≡ [] = ap (λ (ss : List (TakerView T)). taken_at ss) takers_are ∙ taken-none (deques_at takers) in
+      let taken : own.taken ++ taken_at takers ≡ [] = ap (λ (xs : List T). xs ++ taken_at takers) own_taken ∙ takers_taken in
+      let at : List T → List T → List A → CallerView T A = λ xs ys zs. record {
         capacity = own.capacity;
-        deques = deques_at seats;
+        deques = deques_at takers;
         queue = queue;
         given = xs;
         taken = ys;
         answers = zs;
       } in
-      ap (λ xs. at xs (own.taken ++ taken_at seats) answers) given ∙ (ap (λ ys. at [] ys answers) taken ∙ ap (λ zs. at [] [] zs) none)
+      ap (λ xs. at xs (own.taken ++ taken_at takers) answers) given ∙ (ap (λ ys. at [] ys answers) taken ∙ ap (λ zs. at [] [] zs) none)
 
--- seats at the same deques are written back whole
-pub whole_again : {T : Type 0} (len : ℕ) (old new : List (SeatView T)) → length old ≡ len → deques_at new ≡ deques_at old
+-- takers at the same deques are written back whole
+pub whole_again : {T : Type 0} (len : ℕ) (old new : List (TakerView T)) → length old ≡ len → deques_at new ≡ deques_at old
     → take len (new ++ drop (length new) old) ≡ new
 whole_again len old new all at = written_back len old new all
     (sym (length-map new (λ s. s.at)) ∙ (ap (λ (ids : List DequeId). length ids) at ∙ length-map old (λ s. s.at)))

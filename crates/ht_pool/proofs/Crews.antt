@@ -3,16 +3,16 @@ use Rattle.std.proofs.Common.{◌≡◌, ℕ, List, [], ◌∷◌, ◌++◌, map
 use Rattle.std.proofs.lemmas.List.{map-append}
 use Rattle.std.proofs.lemmas.List.Elements.{All-push, All-same}
 use Rattle.atomic_table.specs.Seated.{TableId}
-use Rattle.ht_pool.specs.Members.{berth_of, HasServed, HaveServed}
+use Rattle.ht_pool.specs.Members.{workplace_of, HasServed, HaveServed}
 use Rattle.ht_pool.specs.declared.member.Member.{Member}
 
 module _ {T A : Type 0} (asked : A → T) (weight : T → ℕ) (queue : TableId) where
   pub have_served-push : (before front after all : List (Member T A)) (m m' : Member T A) → before ≡ front ++ m ∷ [] → all ≡ after ++ m' ∷ []
-      → HaveServed asked weight queue front after → HasServed asked weight queue m' → berth_of m' ≡ berth_of m → HaveServed asked weight queue before all
+      → HaveServed asked weight queue front after → HasServed asked weight queue m' → workplace_of m' ≡ workplace_of m → HaveServed asked weight queue before all
   have_served-push before front after all m m' b a those this same =
-      let new : map berth_of all ≡ map berth_of after ++ berth_of m' ∷ [] = ap (map berth_of) a ∙ map-append berth_of after (m' ∷ []) in
-      let old : map berth_of before ≡ map berth_of front ++ berth_of m ∷ [] = ap (map berth_of) b ∙ map-append berth_of front (m ∷ []) in
+      let new : map workplace_of all ≡ map workplace_of after ++ workplace_of m' ∷ [] = ap (map workplace_of) a ∙ map-append workplace_of after (m' ∷ []) in
+      let old : map workplace_of before ≡ map workplace_of front ++ workplace_of m ∷ [] = ap (map workplace_of) b ∙ map-append workplace_of front (m ∷ []) in
       record {
         served = All-same (HasServed asked weight queue) all (after ++ m' ∷ []) a (All-push (HasServed asked weight queue) after m' those.served this);
-        berths_are = new ∙ (ap (λ x. map berth_of after ++ x ∷ []) same ∙ (ap (λ xs. xs ++ berth_of m ∷ []) those.berths_are ∙ sym old));
+        workplaces_are = new ∙ (ap (λ x. map workplace_of after ++ x ∷ []) same ∙ (ap (λ xs. xs ++ workplace_of m ∷ []) those.workplaces_are ∙ sym old));
       }

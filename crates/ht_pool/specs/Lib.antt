@@ -1,9 +1,9 @@
-pub mod Hands
-pub mod Seats
+pub mod PassLogs
+pub mod Takers
 pub mod Through
 pub mod Moving
 pub mod Members
-pub mod Helms
+pub mod Callers
 pub mod Gathering
 pub mod Pools
 pub mod Opening

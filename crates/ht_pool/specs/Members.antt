@@ -6,8 +6,8 @@ use Rattle.crossbeam_queue.specs.Passes.{Pass, view as answer_view}
 use Rattle.crossbeam_queue.specs.declared.array_queue.Doing.{Doing}
 use Rattle.crossbeam_queue.specs.declared.array_queue.Slotted.{Slotted}
 use Rattle.ht_list.specs.Counts.{SameCounts}
-use Rattle.ht_pool.specs.Seats.{DequeId, SeatView, OwnView, deques_at, taken_at}
-use Rattle.ht_pool.specs.declared.hand.Hand.{Hand}
+use Rattle.ht_pool.specs.Takers.{DequeId, TakerView, OwnView, deques_at, taken_at}
+use Rattle.ht_pool.specs.declared.pass_log.PassLog.{PassLog}
 use Rattle.ht_pool.specs.declared.member.Member.{Member}
 
 -- which queue it is
@@ -18,34 +18,34 @@ queue_of q = q.table.shared.table_id
 abbrev pub IsOnQueue : {A V : Type 0} → TableId → Pass A V → Type 0
 IsOnQueue queue p = (p.table_id ≡ queue) × (p.me.1 ≡ [])
 
--- where a worker works: its own deque, how many of the 1024 parts of the right to know this whole deque it has, and the deques that it has seats at
-pub record Berth : Type 0 where
+-- where a worker works: its own deque, how many of the 1024 parts of the right to know this whole deque it has, and the deques that it has takers at
+pub record Workplace : Type 0 where
   pub deque : DequeId
   pub parts : ℕ
   pub at : List DequeId
 
--- with seats of this number of threads at each deque
-abbrev pub berth : List DequeId → DequeId → Berth
-berth deques own = record { deque = own; parts = 1024 - length deques; at = deques }
+-- with takers of this number of threads at each deque
+abbrev pub workplace : List DequeId → DequeId → Workplace
+workplace deques own = record { deque = own; parts = 1024 - length deques; at = deques }
 
--- the berths of all workers but the caller, whose deque is the first
-abbrev pub berths : List DequeId → List Berth
-berths deques = map (berth deques) (drop 1 deques)
+-- the workplaces of all workers but the caller, whose deque is the first
+abbrev pub workplaces : List DequeId → List Workplace
+workplaces deques = map (workplace deques) (drop 1 deques)
 
--- counted with repeats, what was taken at these seats and from one's own deque is what was moved on and what the answers are to
-abbrev pub Balances : {T A : Type 0} → (A → T) → List (SeatView T) → OwnView T → List A → Type 0
-Balances asked seats own answers = SameCounts (own.taken ++ taken_at seats) (own.pushed ++ map asked answers)
+-- counted with repeats, what was taken at these takers and from one's own deque is what was moved on and what the answers are to
+abbrev pub Balances : {T A : Type 0} → (A → T) → List (TakerView T) → OwnView T → List A → Type 0
+Balances asked takers own answers = SameCounts (own.taken ++ taken_at takers) (own.pushed ++ map asked answers)
 
 module _ {T A : Type 0} where
-  abbrev pub berth_of : Member T A → Berth
-  berth_of m = record { deque = m.own.deque; parts = m.own.parts; at = deques_at m.seats.items }
+  abbrev pub workplace_of : Member T A → Workplace
+  workplace_of m = record { deque = m.own.deque; parts = m.own.parts; at = deques_at m.takers.items }
 
   -- the tasks that a worker has taken, on all deques
   abbrev pub tasks_of : Member T A → List T
-  tasks_of m = m.own.taken ++ taken_at m.seats.items
+  tasks_of m = m.own.taken ++ taken_at m.takers.items
 
   -- what went through a worker's pass on the queue of answers
-  abbrev pub answers_of : Member T A → Hand A
+  abbrev pub answers_of : Member T A → PassLog A
   answers_of m = answer_view m.pass
 
   -- its answers go to this queue
@@ -60,7 +60,7 @@ module _ {T A : Type 0} where
     pub none_moved : m.own.pushed ≡ []
     pub none_taken : tasks_of m ≡ []
     pub none_given : (answers_of m).pushed ≡ []
-    pub few : length m.seats.items ≤ 64
+    pub few : length m.takers.items ≤ 64
 
   -- how much is in the tasks that a worker has answered
   abbrev pub answered_weight : (A → T) → (T → ℕ) → Member T A → ℕ
@@ -69,10 +69,10 @@ module _ {T A : Type 0} where
   -- a worker that has ended, which has counted what it answered
   pub record HasServed (asked : A → T) (weight : T → ℕ) (queue : TableId) (m : Member T A) : Type 0 where
     pub answers : AnswersTo queue m
-    pub balanced : Balances asked m.seats.items m.own (answers_of m).pushed
+    pub balanced : Balances asked m.takers.items m.own (answers_of m).pushed
     pub ran : m.ran ≡ answered_weight asked weight m
 
-  -- the workers have ended, each at its own berth
+  -- the workers have ended, each at its own workplace
   pub record HaveServed (asked : A → T) (weight : T → ℕ) (queue : TableId) (before after : List (Member T A)) : Type 0 where
     pub served : All (HasServed asked weight queue) after
-    pub berths_are : map berth_of after ≡ map berth_of before
+    pub workplaces_are : map workplace_of after ≡ map workplace_of before

@@ -4,10 +4,10 @@ use Rattle.std.specs.List.{All, flat_map, sum_by}
 use Rattle.crossbeam_queue.specs.Passes.{view as answer_view}
 use Rattle.ht_list.specs.Counts.{SameCounts}
 use Rattle.ht_pool.specs.Through.{through, first_of}
-use Rattle.ht_pool.specs.Members.{berth_of, berths, answered_weight, HasYetToServe}
+use Rattle.ht_pool.specs.Members.{workplace_of, workplaces, answered_weight, HasYetToServe}
 use Rattle.ht_pool.specs.Gathering.{answered_by}
-use Rattle.ht_pool.specs.Helms.{HelmView, unused}
-use Rattle.ht_pool.specs.declared.hand.Hand.{Hand}
+use Rattle.ht_pool.specs.Callers.{CallerView, unused}
+use Rattle.ht_pool.specs.declared.pass_log.PassLog.{PassLog}
 use Rattle.ht_pool.specs.declared.member.Member.{Member}
 use Rattle.ht_pool.specs.declared.space.Space.{Space}
 use Rattle.ht_pool.specs.declared.pool.Pool.{Pool}
@@ -22,50 +22,50 @@ module _ {T : Type 0} where
     pub deques : (s.deques.items ≡ []) × (workers ≤ vec_capacity s.deques)
 
   -- all that was taken on these deques
-  abbrev pub taken_on : List (Hand T) → List T
-  taken_on hands = flat_map (λ (v : Hand T). v.taken) hands
+  abbrev pub taken_on : List (PassLog T) → List T
+  taken_on logs = flat_map (λ (v : PassLog T). v.taken) logs
 
   -- what was pushed on the deques other than the first, the caller's
-  abbrev pub moved_on : List (Hand T) → List T
-  moved_on hands = flat_map (λ (v : Hand T). v.pushed) (drop 1 hands)
+  abbrev pub moved_on : List (PassLog T) → List T
+  moved_on logs = flat_map (λ (v : PassLog T). v.pushed) (drop 1 logs)
 
   -- what was pushed was taken, each as often, so nothing is left
-  abbrev pub IsEmptied : Hand T → Type 0
+  abbrev pub IsEmptied : PassLog T → Type 0
   IsEmptied v = SameCounts v.taken v.pushed
 
 module _ {T A : Type 0} where
   -- a pool whose deques have this capacity
   pub record IsOpened (capacity : ℕ) (p : Pool T A) : Type 0 where
-    pub post : p.post ≡ unused capacity p.post.deques p.shared
+    pub caller_end : p.caller_end ≡ unused capacity p.caller_end.deques p.shared
     pub fresh : All (HasYetToServe p.shared) p.members.items
-    pub berths_are : map berth_of p.members.items ≡ berths p.post.deques
-    pub seats : vec_len p.members ≤ vec_capacity p.members
-    pub space : IsVacant (length p.post.deques) p.space
+    pub workplaces_are : map workplace_of p.members.items ≡ workplaces p.caller_end.deques
+    pub takers : vec_len p.members ≤ vec_capacity p.members
+    pub space : IsVacant (length p.caller_end.deques) p.space
 
   -- what went through the deques, the caller's first, and through the queue of answers
-  abbrev pub through_deques : Closed T A → List (Hand T)
+  abbrev pub through_deques : Closed T A → List (PassLog T)
   through_deques c = map through c.deques.items
 
-  abbrev pub through_queue : Closed T A → Hand A
+  abbrev pub through_queue : Closed T A → PassLog A
   through_queue c = answer_view c.pass
 
-  -- what was done, where the helm is as the caller left it
-  pub record HasRun (asked : A → T) (weight : T → ℕ) (helm : HelmView T A) (helpers : List (Member T A)) (c : Closed T A) : Type 0 where
+  -- what was done, where the caller's end is as the caller left it
+  pub record HasRun (asked : A → T) (weight : T → ℕ) (caller : CallerView T A) (helpers : List (Member T A)) (c : Closed T A) : Type 0 where
     -- there is a deque for each worker
-    pub deques : length c.deques.items ≡ length helm.deques
+    pub deques : length c.deques.items ≡ length caller.deques
     -- the tasks that were pushed on the caller's are those that were given
-    pub pushed : (first_of (through_deques c)).pushed ≡ helm.given
+    pub pushed : (first_of (through_deques c)).pushed ≡ caller.given
     -- none is left on any
     pub emptied : All IsEmptied (through_deques c)
     -- the tasks run, which are those taken less those moved on, are those that were given, each once
-    pub taken : SameCounts (taken_on (through_deques c)) (helm.given ++ moved_on (through_deques c))
+    pub taken : SameCounts (taken_on (through_deques c)) (caller.given ++ moved_on (through_deques c))
     -- each was run once, by the caller or by a worker, who pushed its answer
-    pub each_once : SameCounts (helm.taken ++ map asked (through_queue c).pushed) helm.given
+    pub each_once : SameCounts (caller.taken ++ map asked (through_queue c).pushed) caller.given
     pub delivered : (through_queue c).pushed ≡ answered_by helpers
     -- all answers were received
-    pub received : (through_queue c).taken ≡ helm.answers
+    pub received : (through_queue c).taken ≡ caller.answers
     pub answers : SameCounts (through_queue c).taken (through_queue c).pushed
     -- how much was in the tasks that each has run and, beside the caller, answered; the caller first
-    pub each : length c.ran.items ≡ length helm.deques
-    pub numbers : c.ran.items ≡ sum_by weight helm.taken ∷ map (answered_weight asked weight) helpers
-    pub ran : sum c.ran.items ≡ sum_by weight helm.given
+    pub each : length c.ran.items ≡ length caller.deques
+    pub numbers : c.ran.items ≡ sum_by weight caller.taken ∷ map (answered_weight asked weight) helpers
+    pub ran : sum c.ran.items ≡ sum_by weight caller.given

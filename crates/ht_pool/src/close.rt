@@ -2,35 +2,35 @@
 ghost use Rattle.std.specs.Prelude.{◌≡◌, ◌+◌, ◌<◌, ◌≤◌, ◌++◌, [], List, length, map, vec_capacity};
 ghost use Rattle.std.specs.List.{All};
 ghost use Rattle.crossbeam_queue.specs.Passes.{view};
-ghost use Rattle.ht_pool.specs.Seats.{SeatView, OwnView, deques_at};
+ghost use Rattle.ht_pool.specs.Takers.{TakerView, OwnView, deques_at};
 ghost use Rattle.ht_pool.specs.Through.{through};
-ghost use Rattle.ht_pool.specs.Members.{IsOnQueue, HasServed, berth_of, berths};
-ghost use Rattle.ht_pool.specs.Helms.{IsSettled};
+ghost use Rattle.ht_pool.specs.Members.{IsOnQueue, HasServed, workplace_of, workplaces};
+ghost use Rattle.ht_pool.specs.Callers.{IsSettled};
 ghost use Rattle.ht_pool.specs.Gathering.{Collects, IsAccounted, ended, joined_row, joined_rows, rows_of};
 ghost use Rattle.ht_pool.specs.Pools.{HasRun, IsVacant};
 ghost use Rattle.ht_pool.specs.declared.member.Member.{Member as MemberValue};
 ghost use Rattle.ht_pool.specs.declared.ends.Ends.{Ends as EndsValue};
 
+use crate::caller::Caller;
+use crate::caller_end::CallerEnd;
 use crate::closed::Closed;
 use crate::ends::Ends;
 use crate::first::take_first;
-use crate::helm::Helm;
 use crate::member::Member;
 use crate::own::OwnDeque;
-use crate::post::Post;
-use crate::seat::Seat;
 use crate::shared::{AnswerPass, Shared};
 use crate::space::Space;
+use crate::taker::Taker;
 use crate::work::Work;
 
-// Takes the workers apart: their numbers, their deques and their seats, and joins their passes on the queue.
+// Takes the workers apart: their numbers, their deques and their takers, and joins their passes on the queue.
 fn take_apart<W: Work>(
     shared: &Shared<W::Answer>,
     pass: &mut AnswerPass<W::Answer>,
     mut members: Vec<Member<W::Task, W::Answer>>,
     ran: &mut Vec<u64>,
     owners: &mut Vec<OwnDeque<W::Task>>,
-    rows: &mut Vec<Vec<Seat<W::Task>>>,
+    rows: &mut Vec<Vec<Taker<W::Task>>>,
 )
     requires served { All (HasServed W.asked W.weight shared.now) members.items }
     requires queue { IsOnQueue shared.now pass.old }
@@ -40,48 +40,48 @@ fn take_apart<W: Work>(
     requires room { length rows.old.items + length members.items ≤ vec_capacity rows.old }
     ensures ran { ran.new.items ≡ ran.old.items ++ map (λ (m : MemberValue W.Task W.Answer). m.ran) members.items }
     ensures owners { owners.new.items ≡ owners.old.items ++ map (λ (m : MemberValue W.Task W.Answer). m.own) members.items }
-    ensures rows { rows_of rows.new.items ≡ rows_of rows.old.items ++ map (λ (m : MemberValue W.Task W.Answer). m.seats.items) members.items }
+    ensures rows { rows_of rows.new.items ≡ rows_of rows.old.items ++ map (λ (m : MemberValue W.Task W.Answer). m.takers.items) members.items }
     ensures queue { IsOnQueue shared.now pass.new }
     ensures collected { Collects (view pass.old) (view pass.new) members.items }
 {
     while let Some(member) = take_first(&mut members) {
         let Member {
             own,
-            seats,
+            takers,
             place: _,
             pass: answers,
             ran: number,
         } = member;
         ran.push_reserved(number);
         owners.push_reserved(own);
-        rows.push_reserved(seats);
+        rows.push_reserved(takers);
         shared.absorb(pass, answers);
     }
 }
 
-// Joins one thread's seats into the owners' ends.
-fn join_row<T: Drop>(owners: &mut [OwnDeque<T>], mut seats: Vec<Seat<T>>)
-    requires at { deques_at seats.items ≡ map (λ (o : OwnView T). o.deque) owners.old }
-    ensures { owners.new ≡ joined_row owners.old seats.items }
+// Joins one thread's takers into the owners' ends.
+fn join_row<T: Drop>(owners: &mut [OwnDeque<T>], mut takers: Vec<Taker<T>>)
+    requires at { deques_at takers.items ≡ map (λ (o : OwnView T). o.deque) owners.old }
+    ensures { owners.new ≡ joined_row owners.old takers.items }
 {
-    while let Some(seat) = seats.pop() {
-        owners[seats.len()].absorb(seat);
+    while let Some(taker) = takers.pop() {
+        owners[takers.len()].absorb(taker);
     }
 }
 
-// Joins the seats of all threads into the owners' ends.
-fn join_all<T: Drop>(owners: &mut [OwnDeque<T>], mut rows: Vec<Vec<Seat<T>>>)
-    requires at { All (λ (seats : List (SeatView T)). deques_at seats ≡ map (λ (o : OwnView T). o.deque) owners.old) (rows_of rows.items) }
+// Joins the takers of all threads into the owners' ends.
+fn join_all<T: Drop>(owners: &mut [OwnDeque<T>], mut rows: Vec<Vec<Taker<T>>>)
+    requires at { All (λ (takers : List (TakerView T)). deques_at takers ≡ map (λ (o : OwnView T). o.deque) owners.old) (rows_of rows.items) }
     ensures { owners.new ≡ joined_rows owners.old (rows_of rows.items) }
 {
-    while let Some(seats) = rows.pop() {
-        join_row(owners, seats);
+    while let Some(takers) = rows.pop() {
+        join_row(owners, takers);
     }
 }
 
 // The same for owners that are given back.
-fn join_owners<T: Drop>(mut owners: Vec<OwnDeque<T>>, rows: Vec<Vec<Seat<T>>>) -> Vec<OwnDeque<T>>
-    requires at { All (λ (seats : List (SeatView T)). deques_at seats ≡ map (λ (o : OwnView T). o.deque) owners.items) (rows_of rows.items) }
+fn join_owners<T: Drop>(mut owners: Vec<OwnDeque<T>>, rows: Vec<Vec<Taker<T>>>) -> Vec<OwnDeque<T>>
+    requires at { All (λ (takers : List (TakerView T)). deques_at takers ≡ map (λ (o : OwnView T). o.deque) owners.items) (rows_of rows.items) }
     ensures { result.items ≡ joined_rows owners.items (rows_of rows.items) }
 {
     join_all(owners.as_mut_slice(), rows);
@@ -102,39 +102,39 @@ fn close_all<T: Drop>(mut owners: Vec<OwnDeque<T>>, mut deques: Vec<Ends<T>>) ->
     deques
 }
 
-/// Joins the seats and passes of all workers once they have ended, and tells what the pool has done. The caller has
+/// Joins the takers and passes of all workers once they have ended, and tells what the pool has done. The caller has
 /// taken back or received an answer to as many tasks as it gave.
 pub fn close<W: Work>(
-    helm: Helm<'_, W>,
+    caller: Caller<'_, W>,
     members: Vec<Member<W::Task, W::Answer>>,
     space: Space<W::Task>,
 ) -> Closed<W::Task, W::Answer>
-    requires served { All (HasServed W.asked W.weight helm.queue) members.items }
-    requires berths { map berth_of members.items ≡ berths helm.deques }
-    requires settled { IsSettled helm }
-    requires space { IsVacant (length helm.deques) space }
-    ensures { HasRun W.asked W.weight helm.entry members.items result }
+    requires served { All (HasServed W.asked W.weight caller.queue) members.items }
+    requires workplaces { map workplace_of members.items ≡ workplaces caller.deques }
+    requires settled { IsSettled caller }
+    requires space { IsVacant (length caller.deques) space }
+    ensures { HasRun W.asked W.weight caller.entry members.items result }
 {
-    let Helm {
-        post,
+    let Caller {
+        caller_end,
         shared,
-        ran: caller,
+        ran: callers_share,
         ..
-    } = helm;
-    let Post {
+    } = caller;
+    let CallerEnd {
         own,
-        seats,
+        takers,
         mut pass,
-    } = post;
+    } = caller_end;
     let Space {
         mut ran,
         mut owners,
         mut rows,
         deques,
     } = space;
-    ran.push_reserved(caller);
+    ran.push_reserved(callers_share);
     owners.push_reserved(own);
-    rows.push_reserved(seats);
+    rows.push_reserved(takers);
     take_apart::<W>(shared, &mut pass, members, &mut ran, &mut owners, &mut rows);
     let owners = join_owners(owners, rows);
     shared.learn(&mut pass);

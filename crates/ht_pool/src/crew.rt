@@ -2,7 +2,7 @@
 ghost use Rattle.std.specs.Prelude.{◌≡◌, ◌≤◌, IfSome, IsSome, vec_len, vec_capacity};
 ghost use Rattle.std.specs.List.{All};
 ghost use Rattle.std.specs.Thread.{IsSync};
-ghost use Rattle.ht_pool.specs.Members.{HasYetToServe, HasServed, HaveServed, berth_of};
+ghost use Rattle.ht_pool.specs.Members.{HasYetToServe, HasServed, HaveServed, workplace_of};
 
 use crate::member::Member;
 use crate::serve::serve;
@@ -33,7 +33,7 @@ fn crew<W: Work + Sync, R: Threads + Wait + Sync>(
         move || -> Member<W::Task, W::Answer>
             requires { IsSync R.row × HasYetToServe shared.now mine }
             ensures served { HasServed W.asked W.weight shared.entry.now result }
-            ensures berth { berth_of result ≡ berth_of mine }
+            ensures workplace { workplace_of result ≡ workplace_of mine }
         { serve(rt, work, shared, mine) },
         move || -> Vec<Member<W::Task, W::Answer>>
             requires { IsSync R.row × (vec_len members ≤ vec_capacity members) × All (HasYetToServe shared.now) members.items }

@@ -1,9 +1,9 @@
 //! The ends of a deque whose threads have ended.
 ghost use Rattle.std.specs.Prelude.{◌≡◌};
 ghost use Rattle.crossbeam_deque.specs.Handles.{worker_deque};
-ghost use Rattle.ht_pool.specs.Seats.{IsSpent};
+ghost use Rattle.ht_pool.specs.Takers.{IsSpent};
 
-use crate::seat::{Owner, TaskPass};
+use crate::taker::{Owner, TaskPass};
 
 /// The owner's end of a deque, which shows what was pushed and taken with all passes on it, and a pass with which nothing
 /// was pushed or taken.

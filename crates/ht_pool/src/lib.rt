@@ -1,13 +1,13 @@
 //! A pool of workers that steal, for any kind of work.
 //!
 //! A [`Work`](work::Work) says what a task is, what an answer is, which task an answer is of, and how much is in a task.
-//! [`Pool::open`](pool::Pool::open) takes all the memory that a pool needs. Its parts are what the threads share, the post of
-//! the caller, and the workers. At a [`Helm`](helm::Helm) the caller gives tasks to the pool, takes tasks back that no worker
-//! took and runs them, and receives answers. [`beside`](crew::beside) runs the workers, each in a thread of its own, while
-//! the caller works at its helm in the thread that called. [`close`](close::close) then joins what all have done.
+//! [`Pool::open`](pool::Pool::open) takes all the memory that a pool needs. Its parts are what the threads share, the end of the
+//! caller, and the workers. With a [`Caller`](caller::Caller) the calling thread gives tasks to the pool, takes tasks back that
+//! no worker took and runs them, and receives answers. [`beside`](crew::beside) runs the workers, each in a thread of its own,
+//! while the caller works with it in the thread that called. [`close`](close::close) then joins what all have done.
 //!
 //! Tasks go through deques (crate `crossbeam_deque`): the caller pushes on its own, and each worker moves tasks from
-//! another's deque to its own. Answers go through a queue with a bound (`crossbeam_queue`). Each thread has a seat at every
+//! another's deque to its own. Answers go through a queue with a bound (`crossbeam_queue`). Each thread has a taker at every
 //! deque and a pass on the queue, which remember in proofs what was pushed and taken with them. So
 //! [`close`](close::close) can say what the threads did, in whatever order they ran: each task that was given was run once,
 //! by the caller or by a worker, no task is left, and every answer was received. Beside that it says how much was in the tasks
@@ -17,23 +17,23 @@
 //! 4, 2, 3 and 1, the caller's first: they add up to 10, and so do those of any other run.
 #![tactic(auto)]
 
+pub mod caller;
+pub mod caller_end;
 pub mod close;
 pub mod closed;
 pub mod crew;
 pub mod ends;
 mod first;
-pub mod hand;
-pub mod helm;
 mod lookout;
 pub mod member;
 mod moving;
+mod new_deques;
 pub mod own;
+pub mod pass_log;
 pub mod pool;
-pub mod post;
 pub mod rule;
-pub mod seat;
-mod seating;
 mod serve;
 pub mod shared;
 pub mod space;
+pub mod taker;
 pub mod work;

@@ -1,12 +1,12 @@
 //! A deque of tasks in the hands of its owner.
 ghost use Rattle.std.specs.Prelude.{◌≡◌, ◌-◌, ◌<◌, ◌≤◌, List, length, IfOk, IfErr, IfSome, IfNone, OnOk};
-ghost use Rattle.ht_pool.specs.Hands.{hand, AddsUp};
-ghost use Rattle.ht_pool.specs.Seats.{fresh_seat, fresh_own, pushed_on, popped_from, took_in};
+ghost use Rattle.ht_pool.specs.PassLogs.{pass_log, AddsUp};
+ghost use Rattle.ht_pool.specs.Takers.{fresh_taker, fresh_own, pushed_on, popped_from, took_in};
 ghost use Rattle.ht_pool.specs.Through.{through};
 
 use crate::ends::Ends;
 use crate::rule::{Cut, Push, Take, Whole};
-use crate::seat::{Owner, Seat};
+use crate::taker::{Owner, Taker};
 use std::alloc::{AllocError, Global};
 use std::marker::Model;
 
@@ -21,7 +21,7 @@ pub struct OwnDeque<T: Drop> {
 impl<T: Drop> Model for OwnDeque<T> {
     ghost use Rattle.std.specs.Prelude.{◌≡◌, ◌<◌, ◌≤◌, length};
     ghost use Rattle.crossbeam_deque.specs.Handles.{worker_deque, worker_view, worker_flavor, worker_index, worker_capacity};
-    ghost use Rattle.ht_pool.specs.Seats.{OwnView};
+    ghost use Rattle.ht_pool.specs.Takers.{OwnView};
 
     ghost Value = { OwnView T };
 
@@ -56,15 +56,15 @@ impl<T: Drop> OwnDeque<T> {
         self.capacity
     }
 
-    /// A new seat at the deque.
-    pub(crate) fn seat(&mut self) -> Result<Seat<T>, AllocError>
+    /// A new taker at the deque.
+    pub(crate) fn taker(&mut self) -> Result<Taker<T>, AllocError>
         requires some { 1 < self.old.parts }
         ensures own { OnOk result (self.new ≡ record self.old { parts = self.old.parts - 1 }) }
-        ensures seat { IfOk result (λ seat. seat ≡ fresh_seat self.old.deque) }
+        ensures taker { IfOk result (λ taker. taker ≡ fresh_taker self.old.deque) }
     {
         let pass = self.owner.another::<Cut>();
         let thief = self.owner.stealer()?;
-        Ok(Seat::new(thief, pass))
+        Ok(Taker::new(thief, pass))
     }
 
     /// Pushes a task at the back. It comes back where there is no memory for it, and then at least `capacity` tasks were
@@ -86,18 +86,18 @@ impl<T: Drop> OwnDeque<T> {
         self.owner.pop_as::<Take>()
     }
 
-    /// Joins a seat at the deque into the owner's end.
-    pub(crate) fn absorb(&mut self, seat: Seat<T>)
-        requires at { seat.at ≡ self.old.deque }
-        ensures { self.new ≡ took_in self.old seat }
+    /// Joins a taker at the deque into the owner's end.
+    pub(crate) fn absorb(&mut self, taker: Taker<T>)
+        requires at { taker.at ≡ self.old.deque }
+        ensures { self.new ≡ took_in self.old taker }
     {
-        self.owner.absorb::<Cut>(seat.into_pass());
+        self.owner.absorb::<Cut>(taker.into_pass());
     }
 
-    /// The ends of the deque, once all seats at it are joined. What was pushed is what was taken and what is held.
+    /// The ends of the deque, once all takers at it are joined. What was pushed is what was taken and what is held.
     pub(crate) fn close(self) -> Ends<T>
         requires all { self.parts ≡ 1024 }
-        ensures through { through result ≡ hand 1023 self.pushed self.taken }
+        ensures through { through result ≡ pass_log 1023 self.pushed self.taken }
         ensures whole { (held : List T) × AddsUp (through result) held }
     {
         let mut owner = self.owner;

@@ -2,15 +2,15 @@
 ghost use Rattle.std.specs.Prelude.{◌≡◌, ◌≤◌, [], length, map};
 ghost use Rattle.std.specs.List.{sum_by};
 ghost use Rattle.crossbeam_queue.specs.Passes.{view as answer_view};
-ghost use Rattle.ht_pool.specs.Hands.{hand};
-ghost use Rattle.ht_pool.specs.Seats.{deques_at};
-ghost use Rattle.ht_pool.specs.Members.{berth_of, Balances, IsOnQueue, HasYetToServe, HasServed};
+ghost use Rattle.ht_pool.specs.PassLogs.{pass_log};
+ghost use Rattle.ht_pool.specs.Takers.{deques_at};
+ghost use Rattle.ht_pool.specs.Members.{workplace_of, Balances, IsOnQueue, HasYetToServe, HasServed};
 
 use crate::lookout::next_task;
 use crate::member::Member;
 use crate::own::OwnDeque;
-use crate::seat::Seat;
 use crate::shared::{AnswerPass, Shared};
+use crate::taker::Taker;
 use crate::work::{FULL, Work};
 use crossbeam_utils::Backoff;
 use crossbeam_utils::sync::Key;
@@ -57,22 +57,22 @@ fn run_tasks<W: Work, R: Wait>(
     rt: &R,
     work: &W,
     shared: &Shared<W::Answer>,
-    seats: &mut [Seat<W::Task>],
+    takers: &mut [Taker<W::Task>],
     place: u8,
     own: &mut OwnDeque<W::Task>,
     mut pass: AnswerPass<W::Answer>,
 ) -> (AnswerPass<W::Answer>, u64)
-    requires few { length seats.old ≤ 64 }
+    requires few { length takers.old ≤ 64 }
     requires queue { IsOnQueue shared.now pass }
-    requires part { answer_view pass ≡ hand 1 [] [] }
-    requires balanced { Balances W.asked seats.old own.old [] }
-    ensures at { deques_at seats.new ≡ deques_at seats.old }
+    requires part { answer_view pass ≡ pass_log 1 [] [] }
+    requires balanced { Balances W.asked takers.old own.old [] }
+    ensures at { deques_at takers.new ≡ deques_at takers.old }
     ensures deque { own.new.deque ≡ own.old.deque }
     ensures parts { own.new.parts ≡ own.old.parts }
     ensures queue { IsOnQueue shared.now result.0 }
     ensures part { (answer_view result.0).parts ≡ 1 }
     ensures none_received { (answer_view result.0).taken ≡ [] }
-    ensures balanced { Balances W.asked seats.new own.new (answer_view result.0).pushed }
+    ensures balanced { Balances W.asked takers.new own.new (answer_view result.0).pushed }
     ensures ran { result.1 ≡ sum_by W.weight (map W.asked (answer_view result.0).pushed) }
 {
     let mut ran = 0u64;
@@ -87,7 +87,7 @@ fn run_tasks<W: Work, R: Wait>(
         }
         let sleep = prepare_sleep(shared, looks);
         let last = shared.is_finished();
-        match next_task(seats, place, own) {
+        match next_task(takers, place, own) {
             Some(task) => {
                 drop(sleep);
                 let weight = work.weigh(&task);
@@ -116,11 +116,11 @@ pub(crate) fn serve<W: Work, R: Wait>(
 ) -> Member<W::Task, W::Answer>
     requires fresh { HasYetToServe shared.now member }
     ensures served { HasServed W.asked W.weight shared.now result }
-    ensures berth { berth_of result ≡ berth_of member }
+    ensures workplace { workplace_of result ≡ workplace_of member }
 {
     let Member {
         mut own,
-        mut seats,
+        mut takers,
         place,
         pass,
         ran: _,
@@ -129,14 +129,14 @@ pub(crate) fn serve<W: Work, R: Wait>(
         rt,
         work,
         shared,
-        seats.as_mut_slice(),
+        takers.as_mut_slice(),
         place,
         &mut own,
         pass,
     );
     Member {
         own,
-        seats,
+        takers,
         place,
         pass,
         ran,

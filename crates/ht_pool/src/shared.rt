@@ -1,10 +1,10 @@
 //! What the threads of a pool share.
 ghost use Rattle.std.specs.Prelude.{◌≡◌, ◌-◌, ◌<◌, ◌++◌, ◌∷◌, [], List, IfSome, IfNone};
 ghost use Rattle.crossbeam_queue.specs.Passes.{view, IsPassOf};
-ghost use Rattle.ht_pool.specs.Hands.{hand, joined, AddsUp};
+ghost use Rattle.ht_pool.specs.PassLogs.{pass_log, joined, AddsUp};
 ghost use Rattle.ht_pool.specs.Members.{queue_of, IsOnQueue};
 
-use crate::hand::Hand;
+use crate::pass_log::PassLog;
 use crate::rule::{CountingRule, Cut, Push, Take, Whole};
 use crossbeam_queue::{Pass, RuledArrayQueue};
 use crossbeam_utils::sync::{EventCount, Key};
@@ -14,10 +14,10 @@ use std::sync::Wait;
 use std::sync::atomic::{AtomicBool, Ordering};
 
 /// The queue of answers, with a bound on how many it holds.
-pub type AnswerQueue<A> = RuledArrayQueue<A, Hand<A>, CountingRule>;
+pub type AnswerQueue<A> = RuledArrayQueue<A, PassLog<A>, CountingRule>;
 
 /// A pass on the queue of answers.
-pub type AnswerPass<A> = Pass<A, Hand<A>>;
+pub type AnswerPass<A> = Pass<A, PassLog<A>>;
 
 /// The queue of answers, a flag that tells the workers that no task comes any more, and what idle workers sleep on.
 /// Contracts see which queue it is; none rests on the other two.
@@ -76,7 +76,7 @@ impl<A: Drop> Shared<A> {
         requires queue { IsOnQueue self.now pass }
         requires part { 0 < (view pass).parts }
         ensures queue { IsOnQueue self.now result }
-        ensures pushed { view result ≡ hand (view pass).parts ((view pass).pushed ++ answer ∷ []) (view pass).taken }
+        ensures pushed { view result ≡ pass_log (view pass).parts ((view pass).pushed ++ answer ∷ []) (view pass).taken }
     {
         deliver(rt, &self.answers, pass, answer)
     }
@@ -86,9 +86,9 @@ impl<A: Drop> Shared<A> {
         requires queue { IsOnQueue self.now pass.old }
         requires some { 1 < (view pass.old).parts }
         ensures queue { IsOnQueue self.now pass.new }
-        ensures rest { view pass.new ≡ hand ((view pass.old).parts - 1) (view pass.old).pushed (view pass.old).taken }
+        ensures rest { view pass.new ≡ pass_log ((view pass.old).parts - 1) (view pass.old).pushed (view pass.old).taken }
         ensures new_queue { IsOnQueue self.now result }
-        ensures one { view result ≡ hand 1 [] [] }
+        ensures one { view result ≡ pass_log 1 [] [] }
     {
         self.answers.another::<Cut>(pass)
     }
@@ -121,7 +121,7 @@ impl<A: Drop> Shared<A> {
         requires part { 0 < (view pass.old).parts }
         ensures queue { IsOnQueue self.now pass.new }
         ensures taken { IfSome result (λ answer.
-            view pass.new ≡ hand (view pass.old).parts (view pass.old).pushed ((view pass.old).taken ++ answer ∷ [])) }
+            view pass.new ≡ pass_log (view pass.old).parts (view pass.old).pushed ((view pass.old).taken ++ answer ∷ [])) }
         ensures none { IfNone result (view pass.new ≡ view pass.old) }
     {
         self.answers.try_pop_as::<Take>(pass)
@@ -138,7 +138,7 @@ fn deliver<A: Drop, R: Wait>(
     requires queue { IsPassOf answers.now pass }
     requires part { 0 < (view pass).parts }
     ensures queue { IsPassOf answers.now result }
-    ensures pushed { view result ≡ hand (view pass).parts ((view pass).pushed ++ answer ∷ []) (view pass).taken }
+    ensures pushed { view result ≡ pass_log (view pass).parts ((view pass).pushed ++ answer ∷ []) (view pass).taken }
 {
     let mut answer = answer;
     let backoff = Backoff::new();

@@ -1,17 +1,17 @@
--- A run that a gatherer took began with this device and this frame under way.
+-- A run that a receiver with workers took began with this device and this frame under way.
 use Rattle.std.proofs.Common.{◌≡◌, ℕ, List, [], MatchResult, Result, ap, subst, ◌∙◌}
 use Rattle.ht_io.specs.Devices.{Device}
 use Rattle.ht_fields.specs.Meanings.{Meaning}
 use Rattle.ht_runs.specs.declared.faults.RunFault.{RunFault}
 use Rattle.ht_feed.specs.declared.ended.Ended.{Ended}
-use Rattle.ht_feed.specs.Accounts.{Telling}
+use Rattle.ht_feed.specs.Consumers.{Telling}
 use Rattle.ht_feed.specs.Items.{Headed, Item}
 use Rattle.ht_feed.specs.Outcomes.{Comes, StopsAs, EndsWhole, pieces_of}
 use Rattle.ht_feed.specs.Reading.{view}
 use Rattle.ht_frames.specs.Gathering.{booked_behind, booked_in}
 use Rattle.ht_receive.specs.Receiving.{books}
 
--- what a gatherer puts in all, where these frames are whole; what waits is not spoken of
+-- what a receiver with workers puts in all, where these frames are whole; what waits is not spoken of
 abbrev pub behind : {H W T P : Type 0} → (W → T) → (T → List P) → List W → (List (Headed H) → List T) → Device P → Telling H P
 behind result_of booked whole results device =
     record { device = device; pieces = booked_behind result_of booked whole results; Waits = λ due. Unit {0} }

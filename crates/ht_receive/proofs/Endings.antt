@@ -16,7 +16,7 @@ use Rattle.ht_runs.specs.declared.faults.RunFault.TheVariants.{Format, Read, Wri
 use Rattle.ht_runs.proofs.Streaming.{no_file}
 use Rattle.ht_fields.proofs.Joins.{early_text}
 use Rattle.ht_feed.specs.declared.ended.Ended.{Ended}
-use Rattle.ht_feed.specs.Accounts.{Telling}
+use Rattle.ht_feed.specs.Consumers.{Telling}
 use Rattle.ht_feed.specs.Items.{Headed, Item, headed}
 use Rattle.ht_feed.specs.Outcomes.{Comes, StopsAs as BlockStops, EndsRefused as BlockRefused, EndsWhole as BlockWhole}
 use Rattle.ht_receive.specs.Endings.{IsTold, MeansFrames, PutsEnd, end_as, seen_as}
@@ -67,7 +67,7 @@ module _ {S I H : Type 0} (f : Grammar S I) (items_as : List I → List (Item H)
     lines_put (Err Write) mid t = (in_part f items_as lines source source' sink mid t.0, t.1)
     lines_put (Err NoMemory) mid t = in_part f items_as lines source source' sink mid t
 
-  -- A run of blocks from a reader in front of an input, by an account that keeps nothing back and shows these pieces, and
+  -- A run of blocks from a reader in front of an input, by a consumer that keeps nothing back and shows these pieces, and
   -- then its end line: what the whole call promises.
   pub ends : {R : Type 0} (means_of : R → List ℕ → Meaning (Item H)) (at : R → ℕ) (reader : R) (source source' : Device ℕ) (a b : Telling H ℕ)
       (run : Result Ended RunFault) (sink' : Device ℕ) (result : Result ℕ RunFault)

@@ -13,7 +13,7 @@ use Rattle.ht_runs.specs.declared.faults.RunFault.{RunFault}
 use Rattle.ht_runs.proofs.Fronts.{before_end, before_fault}
 use Rattle.ht_runs.proofs.Outcomes.{start as start_of}
 use Rattle.ht_feed.specs.declared.ended.Ended.{Ended}
-use Rattle.ht_feed.specs.Accounts.{Telling}
+use Rattle.ht_feed.specs.Consumers.{Telling}
 use Rattle.ht_feed.specs.Items.{Item, frames_of, headed, jobs_of}
 use Rattle.ht_feed.specs.Reading.{view}
 use Rattle.ht_feed.specs.Outcomes.{

@@ -47,7 +47,7 @@ module _ {S I H : Type 0} (f : Grammar S I) (items_as : List I → List (Item H)
   abbrev pub MeansFrames : ℕ → List ℕ → Type 0
   MeansFrames frames octets = frames ≡ frames_of (items_as (meaning f f.start 0 octets).items)
 
-  -- The text and the lines of octets, where an account puts these pieces of the jobs that the reader sees, behind a head
+  -- The text and the lines of octets, where a consumer puts these pieces of the jobs that the reader sees, behind a head
   -- that stands for the one that came last.
   pub record IsTold (head : H) (pieces : List (Headed H) → List ℕ) (text lines : List ℕ → List ℕ) : Type 0 where
     pub lined : IsLined f text lines end_as

@@ -4,12 +4,12 @@ use Rattle.ht_io.specs.Devices.{Device}
 use Rattle.ht_fields.specs.Meanings.{Meaning}
 use Rattle.ht_runs.specs.declared.faults.RunFault.{RunFault}
 use Rattle.ht_feed.specs.declared.ended.Ended.{Ended}
-use Rattle.ht_feed.specs.Accounts.{Telling}
+use Rattle.ht_feed.specs.Consumers.{Telling}
 use Rattle.ht_feed.specs.Inputs.{TellsInput}
 use Rattle.ht_feed.specs.Items.{Headed, Item}
 use Rattle.ht_frames.specs.Gathering.{booked_in}
 
--- an account that books this of a result, where the jobs that still come give these results; it keeps nothing back
+-- a consumer that books this of a result, where the jobs that still come give these results; it keeps nothing back
 abbrev pub books : {H T P : Type 0} → (T → List P) → (List (Headed H) → List T) → Device P → Telling H P
 books booked results device = record { device = device; pieces = booked_in booked results; Waits = λ due. Unit {0} }
 

@@ -21,10 +21,10 @@
 //! ```
 //!
 //! Any run over blocks that puts lines while it reads ends so, lists of jobs too. A run of `tell_alone` of crate `ht_feed`, or
-//! of a drive, answers how it ended, and its account put the lines of what is whole. [`put_end`] puts the last line if the
+//! of a drive, answers how it ended, and its consumer put the lines of what is whole. [`put_end`] puts the last line if the
 //! input was whole, and answers the number of its frames; if the input has a fault nothing more is put, and the caller puts
 //! the line of the fault. What both calls promise together is said once for every format, every reader of blocks and every
-//! account: it is `Streamed` of crate `ht_runs` of the format's filter (`IsTold` of `specs/Endings.antt`, and `ends` of
+//! consumer: it is `Streamed` of crate `ht_runs` of the format's filter (`IsTold` of `specs/Endings.antt`, and `ends` of
 //! `proofs/Endings.antt`).
 #![tactic(auto)]
 

@@ -5,7 +5,7 @@ ghost use Rattle.ht_receive.specs.Receiving.{BooksInput};
 
 use ht_drive::tell;
 use ht_feed::{BlockReader, Ended, Shared, Work, tell_alone};
-use ht_frames::{Book, Frames, Gatherer, Receiver, UnderWay, UnderWayTogether, WholeFrame};
+use ht_frames::{Book, Frames, Receiver, ReceiverTogether, UnderWay, UnderWayTogether, WholeFrame};
 use ht_io::Source;
 use ht_runs::RunFault;
 use std::alloc::Global;
@@ -50,8 +50,8 @@ pub fn receive_alone<
 }
 
 /// Does as [`receive_alone`], and the blocks are tallied by 1 to 64 workers, of which the caller is one, while whole frames are
-/// decoded as a [`Gatherer`] has it done. The work sends its workers to the frames given here before they look for blocks, as
-/// that of `BesideFrames` does. The results are the same, in the same order.
+/// decoded as a [`ReceiverTogether`] has it done. The work sends its workers to the frames given here before they look for
+/// blocks, as that of `BesideFrames` does. The results are the same, in the same order.
 pub fn receive<
     T: Threads + Wait + Sync,
     U: UnderWayTogether + Drop,
@@ -83,7 +83,15 @@ where
 {
     let mut queue = VecDeque::new(alloc);
     let mut under_way = under_way;
-    let mut gatherer = Gatherer::new(rt, alloc, workers, frames, &mut under_way, &mut queue, book);
+    let mut receiver_together = ReceiverTogether::new(
+        rt,
+        alloc,
+        workers,
+        frames,
+        &mut under_way,
+        &mut queue,
+        book,
+    );
     tell(
         rt,
         alloc,
@@ -93,6 +101,6 @@ where
         head,
         work,
         source,
-        &mut gatherer,
+        &mut receiver_together,
     )
 }

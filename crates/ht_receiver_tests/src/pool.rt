@@ -1,17 +1,17 @@
 //! Squares of the first numbers by one, two and four threads, which all run a task at the same time at first.
 ghost use Rattle.std.specs.Prelude.{◌≡◌, ◌+◌, ◌*◌, ◌≤◌, [], length, map, IfOk, IfSome, vec_len, vec_capacity};
 ghost use Rattle.std.specs.List.{All};
-ghost use Rattle.ht_pool.specs.Helms.{unused, IsSettled, IsSameHelm};
-ghost use Rattle.ht_pool.specs.Members.{berth_of, berths, HasYetToServe};
+ghost use Rattle.ht_pool.specs.Callers.{unused, IsSettled, IsSameCaller};
+ghost use Rattle.ht_pool.specs.Members.{workplace_of, workplaces, HasYetToServe};
 ghost use Rattle.ht_pool.specs.Pools.{IsVacant};
 
 use crate::equal::equal;
+use ht_pool::caller::Caller;
+use ht_pool::caller_end::CallerEnd;
 use ht_pool::close::close;
 use ht_pool::crew::beside;
-use ht_pool::helm::Helm;
 use ht_pool::member::Member;
 use ht_pool::pool::Pool;
-use ht_pool::post::Post;
 use ht_pool::shared::Shared;
 use ht_pool::space::Space;
 use ht_pool::work::Work;
@@ -84,29 +84,29 @@ impl Work for Squares {
 }
 
 // An answer that has come, or that of a task that no worker took.
-fn next(helm: &mut Helm<'_, Squares>) -> Option<Squared>
-    ensures same { IsSameHelm helm.old helm.new }
-    ensures given { helm.new.given ≡ helm.old.given }
-    ensures some { IfSome result (λ _. length helm.new.taken + length helm.new.answers ≡ length helm.old.taken + length helm.old.answers + 1) }
-    ensures more { length helm.old.taken + length helm.old.answers ≤ length helm.new.taken + length helm.new.answers }
+fn next(caller: &mut Caller<'_, Squares>) -> Option<Squared>
+    ensures same { IsSameCaller caller.old caller.new }
+    ensures given { caller.new.given ≡ caller.old.given }
+    ensures some { IfSome result (λ _. length caller.new.taken + length caller.new.answers ≡ length caller.old.taken + length caller.old.answers + 1) }
+    ensures more { length caller.old.taken + length caller.old.answers ≤ length caller.new.taken + length caller.new.answers }
 {
-    let received = helm.receive();
+    let received = caller.receive();
     if received.is_some() {
         return received;
     }
-    helm.run_one()
+    caller.run_one()
 }
 
 // Gives the numbers below 1000 to the pool, and adds up their squares.
-fn lead<R: Wait>(rt: &R, work: &Squares, helm: &mut Helm<'_, Squares>) -> u64
-    requires { helm.old.given ≡ [] }
-    ensures same { IsSameHelm helm.old helm.new }
-    ensures settled { IsSettled helm.new }
+fn lead<R: Wait>(rt: &R, work: &Squares, caller: &mut Caller<'_, Squares>) -> u64
+    requires { caller.old.given ≡ [] }
+    ensures same { IsSameCaller caller.old caller.new }
+    ensures settled { IsSettled caller.new }
 {
     let mut sum = 0u64;
     let mut waiting = 0u32;
     for number in 0..1000 {
-        match helm.give(number) {
+        match caller.give(number) {
             Ok(()) => waiting += 1,
             Err(back) => sum = sum.wrapping_add(work.answer_to(back).square),
         }
@@ -115,7 +115,7 @@ fn lead<R: Wait>(rt: &R, work: &Squares, helm: &mut Helm<'_, Squares>) -> u64
         if waiting == 0 {
             return sum;
         }
-        match next(helm) {
+        match next(caller) {
             Some(answer) => {
                 sum = sum.wrapping_add(answer.square);
                 waiting -= 1;
@@ -131,20 +131,26 @@ fn add_up<R: Threads + Wait + Sync>(
     rt: &R,
     work: &Squares,
     shared: &Shared<Squared>,
-    post: Post<u32, Squared>,
+    caller_end: CallerEnd<u32, Squared>,
     members: Vec<Member<u32, Squared>>,
     space: Space<u32>,
 ) -> (u64, Vec<u64>)
-    requires post { post ≡ unused 1024 post.deques shared.now }
+    requires caller_end { caller_end ≡ unused 1024 caller_end.deques shared.now }
     requires fresh { All (HasYetToServe shared.now) members.items }
-    requires berths { map berth_of members.items ≡ berths post.deques }
-    requires seats { vec_len members ≤ vec_capacity members }
-    requires space { IsVacant (length post.deques) space }
+    requires workplaces { map workplace_of members.items ≡ workplaces caller_end.deques }
+    requires takers { vec_len members ≤ vec_capacity members }
+    requires space { IsVacant (length caller_end.deques) space }
     ensures { vec_len result.1 ≡ vec_len members + 1 }
 {
-    let mut helm = Helm::new(post, shared, work);
-    let (members, sum) = beside(rt, work, shared, members, &mut || lead(rt, work, &mut helm));
-    (sum, close(helm, members, space).ran)
+    let mut caller = Caller::new(caller_end, shared, work);
+    let (members, sum) = beside(
+        rt,
+        work,
+        shared,
+        members,
+        &mut || lead(rt, work, &mut caller),
+    );
+    (sum, close(caller, members, space).ran)
 }
 
 fn run_squares<R: Threads + Wait + Sync>(
@@ -157,11 +163,11 @@ fn run_squares<R: Threads + Wait + Sync>(
 {
     let Pool {
         shared,
-        post,
+        caller_end,
         members,
         space,
     } = Pool::open(alloc, helpers, 1024)?;
-    Ok(add_up(rt, work, &shared, post, members, space))
+    Ok(add_up(rt, work, &shared, caller_end, members, space))
 }
 
 #[test]

@@ -12,7 +12,7 @@ use Rattle.ht_metric.specs.Jobs.{JobView, near}
 use Rattle.ht_capture.specs.declared.items.FrameHead.{FrameHead}
 use Rattle.ht_runs.specs.declared.faults.RunFault.{RunFault}
 use Rattle.ht_feed.specs.declared.ended.Ended.{Ended}
-use Rattle.ht_feed.specs.Accounts.{PutsBlock, PutsPartOf, Telling}
+use Rattle.ht_feed.specs.Consumers.{PutsBlock, PutsPartOf, Telling}
 use Rattle.ht_feed.specs.Dues.{due_of, headed_due}
 use Rattle.ht_feed.specs.Items.{Item}
 use Rattle.ht_feed.specs.Inputs.{TellsInput}
@@ -76,7 +76,7 @@ lines_are : (octets : List ℕ) → pieces_of_octets (λ js. job_lines (jobs_alo
 unfolding lines_of
 lines_are octets = ap job_lines (jobs_of_octets octets)
 
--- an account that puts the lines of the jobs that still come
+-- a consumer that puts the lines of the jobs that still come
 abbrev pub lists : Device ℕ → Telling FrameHead ℕ
 lists sink = record { device = sink; pieces = λ jobs. job_lines (jobs_alone jobs); Waits = λ due. Unit {0} }
 

@@ -19,7 +19,7 @@ use Rattle.ht_capture_laws.proofs.Parts.{frames_of as parts_of}
 use Rattle.ht_runs.specs.declared.faults.RunFault.{RunFault}
 use Rattle.ht_runs.specs.declared.faults.RunFault.TheVariants.{Format, Read, Write, NoMemory}
 use Rattle.ht_feed.specs.declared.ended.Ended.{Ended}
-use Rattle.ht_feed.specs.Accounts.{Telling}
+use Rattle.ht_feed.specs.Consumers.{Telling}
 use Rattle.ht_capture_blocks.specs.Captures.{items_of, mapped}
 use Rattle.ht_feed.specs.Items.{Item, Begins, One}
 use Rattle.ht_feed.specs.Items.{headed as block_headed, headed_of, frames_of as block_frames, jobs_of as block_jobs}

@@ -7,14 +7,14 @@
 //! [`receive_alone`] promise the same, and run every job in the calling thread. [`list_text`], [`receive_text`], and those
 //! that end in `_alone`, put the whole text of a capture into a sink: the line of each job or frame, and the last line.
 //!
-//! A drive of crate `ht_drive` takes blocks of jobs from a capture's reader, and hands the answers in order to an account
-//! (`Account` of crate `ht_feed`): a [`Lister`] puts the lines of each block; the receivers of crate `ht_frames` book a
+//! A drive of crate `ht_drive` takes blocks of jobs from a capture's reader, and hands the answers in order to a consumer
+//! (`Consumer` of crate `ht_feed`): a [`Lister`] puts the lines of each block; the receivers of crate `ht_frames` book a
 //! [`FrameResult`] once the tally with the last job of its frame came. [`HardLabels`] says what they keep of a job, its labels,
 //! and how these are decoded; a tally has the labels of a block's jobs, with the distances summed. [`LaneWork`] makes tallies.
 //!
 //! Crate `ht_results` defines what must be put, over the octets alone: `lines_of`, and with the last line `detect_text`, in
-//! `specs/JobTexts.antt`; `frame_lines_of` and `rx_text` in `specs/Texts.antt`. What an account puts is a function of the jobs
-//! that come, so one set of lemmas says for all accounts what is put of a whole capture, at a fault, where a source fails and
+//! `specs/JobTexts.antt`; `frame_lines_of` and `rx_text` in `specs/Texts.antt`. What a consumer puts is a function of the jobs
+//! that come, so one set of lemmas says for all consumers what is put of a whole capture, at a fault, where a source fails and
 //! where memory runs out (`specs/Outcomes.antt`).
 //!
 //! The capture `examples/z.htcp` has one frame of two symbols, each of 56 jobs; its lines are

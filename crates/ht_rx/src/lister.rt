@@ -1,4 +1,4 @@
-//! An account that puts the lines of each block.
+//! A consumer that puts the lines of each block.
 ghost use Rattle.std.specs.Prelude.{◌≡◌, ◌∷◌, [], refl};
 ghost use Rattle.ht_rx.specs.Heads.{jobs_alone};
 ghost use Rattle.ht_results.specs.JobTexts.{job_lines};
@@ -6,7 +6,7 @@ ghost use Rattle.ht_results.specs.JobTexts.{job_lines};
 use crate::block_lines::Lines;
 use circular_buffer::HeapCircularBuffer;
 use ht_capture::FrameHead;
-use ht_feed::{Account, BlockReader, BookFault, DueBlock};
+use ht_feed::{BlockReader, BookFault, Consumer, DueBlock};
 use ht_io::Sink;
 
 /// Puts the lines of each block into a sink, in one put. It keeps nothing back.
@@ -25,7 +25,7 @@ impl<'a, K: Sink> Lister<'a, K> {
     }
 }
 
-impl<'a, R: BlockReader<Head = FrameHead>, K: Sink> Account<R> for Lister<'a, K> {
+impl<'a, R: BlockReader<Head = FrameHead>, K: Sink> Consumer<R> for Lister<'a, K> {
     type Piece = u8;
 
     type Answer = Lines;

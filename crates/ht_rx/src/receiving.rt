@@ -46,7 +46,7 @@ pub fn receive_alone<S: Source, B: Book<FrameResult>, G: Gate>(
 
 /// Does as [`receive_alone`], with 1 to 64 workers, of which the caller is one, and books the same results in the same order.
 ///
-/// Whole frames are decoded as a `Gatherer` of crate `ht_frames` has it done: those of 100 octets or more by the workers,
+/// Whole frames are decoded as a `ReceiverTogether` of crate `ht_frames` has it done: those of 100 octets or more by the workers,
 /// before they look for jobs, shorter ones by the caller. While jobs are due, at most two frames for each worker beside the
 /// caller have no booked result, not counting the frame under way, and at most three of the longest frames are kept. Once no
 /// job is due the caller decodes the frame that is whole then, the codewords of two encoders in two threads. No clause says

@@ -52,9 +52,9 @@ pub fn receive_soft_alone<S: Source, K: Sink, G: Gate>(
 
 /// Does as [`receive_soft_alone`], with 1 to 64 workers, of which the caller is one. The lines are the same, in the same order.
 ///
-/// Whole frames are decoded while the jobs behind them are read and run, as a `Gatherer` of crate `ht_frames` does it: those
-/// of 100 octets or more by the workers, before they look for blocks, and shorter ones by the caller. While jobs are due, at
-/// most two frames for each worker beside the caller have no booked result, not counting the frame under way, and the weights
+/// Whole frames are decoded while the jobs behind them are read and run, as a `ReceiverTogether` of crate `ht_frames` does it:
+/// those of 100 octets or more by the workers, before they look for blocks, and shorter ones by the caller. While jobs are due,
+/// at most two frames for each worker beside the caller have no booked result, not counting the frame under way, and the weights
 /// of at most three of the longest frames are kept, 4.2 MB each. No clause says so. However it ends, no thread is left behind.
 #[tactic(auto, using(ht_receive::proofs::Streaming::lacks))]
 pub fn receive_soft<R: Threads + Wait + Sync, S: Source, K: Sink, G: Gate + Sync>(

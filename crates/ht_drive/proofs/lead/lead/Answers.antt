@@ -9,13 +9,13 @@ use Rattle.ht_drive.proofs.lead.lead.Goals.{In-Ok}
 -- the window was filled
 supplied : (g : _) (c : In-Ok g) → IsLeading g.F.BlockFeed.shown g.F.BlockFeed.leads c.in-Ok.on (seen g.B.Jobs.jobs c.args.window.now)
     (seen g.B.Jobs.jobs c.supply.new.window)
-    c.args.helm.now c.supply.new.helm c.supply.new.tally c.args.feed.now c.supply.new.feed
+    c.args.caller.now c.supply.new.caller c.supply.new.tally c.args.feed.now c.supply.new.feed
 supplied g c = goes_further _ _ g.met.F.BlockFeed.goes_on c.loop.invariant c.in-Ok.ensures.goes_on
 
 pub returns-in-Err : goal.returns-in-Err
 returns-in-Err g c = record {
   leaves = leaves_by _ _ g.met.F.BlockFeed.goes_on c.requires.fresh c.loop.invariant c.supply.ensures.steps;
-  same = same_on c.args.helm.now c.loop.helm c.supply.new.helm c.loop.invariant.same c.supply.ensures.same;
+  same = same_on c.args.caller.now c.loop.caller c.supply.new.caller c.loop.invariant.same c.supply.ensures.same;
   led = tt;
   refuses = c.in-Err.ensures.refuses;
 }
@@ -53,7 +53,7 @@ returns-then-is_err g c =
     let so_far = supplied g (goal.at.returns-then-is_err g c).In-Ok in
     record {
       leaves = leaves_by _ _ g.met.F.BlockFeed.goes_on c.requires.fresh so_far c.deliver.ensures.steps;
-      same = same_on c.args.helm.now c.supply.new.helm c.turn.new.helm so_far.same c.turn.ensures.same;
+      same = same_on c.args.caller.now c.supply.new.caller c.turn.new.caller so_far.same c.turn.ensures.same;
       led = tt;
       refuses = search rules;
     }

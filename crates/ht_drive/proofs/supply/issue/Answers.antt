@@ -2,7 +2,7 @@ use Rattle.std.proofs.Common.{◌≡◌, ◌+◌, length, sym, subst, refl, rule
 use Rattle.ht_feed.specs.OwnNumbers.{AreByNumber}
 use Rattle.ht_feed.specs.Dues.{all_in}
 use Rattle.ht_drive.specs.Blocks.{gave}
-use Rattle.ht_drive.specs.Blocks.{BlockHelm}
+use Rattle.ht_drive.specs.Blocks.{BlockCaller}
 use Rattle.ht_drive.specs.Driving.{Tallies}
 use Rattle.ht_drive.specs.declared.tally.Tally.{Tally}
 use Rattle.ht_drive.proofs.Giving.{issues_given, told_given}
@@ -13,13 +13,13 @@ returns-else-not-give-clause-tallies g c =
     let jobs = g.B.Jobs.jobs c.args.block in
     let t = c.args.tally.now in
     let t' : Tally = record { issued = t.issued + c.from-size.result; own = t.own } in
-    let is : c.give.new.self ≡ gave c.args.helm.now jobs = search rules in
+    let is : c.give.new.self ≡ gave c.args.caller.now jobs = search rules in
     let issued : t'.issued ≡ t.issued + length jobs = search rules in
-    subst (λ (helm : BlockHelm). Tallies t' helm) (sym is)
-    (issues_given t c.args.helm.now jobs c.requires.tallies c.requires.numbers c.requires.block t' issued refl)
+    subst (λ (caller : BlockCaller). Tallies t' caller) (sym is)
+    (issues_given t c.args.caller.now jobs c.requires.tallies c.requires.numbers c.requires.block t' issued refl)
 
 pub returns-else-not-give-clause-by_number : goal.returns-else-not-give-clause-by_number
 returns-else-not-give-clause-by_number g c =
     let jobs = g.B.Jobs.jobs c.args.block in
-    let is : c.give.new.self ≡ gave c.args.helm.now jobs = search rules in
-    λ all by_number more. subst (λ (helm : BlockHelm). AreByNumber all (all_in helm.given)) (sym is) (told_given all c.args.helm.now jobs by_number more)
+    let is : c.give.new.self ≡ gave c.args.caller.now jobs = search rules in
+    λ all by_number more. subst (λ (caller : BlockCaller). AreByNumber all (all_in caller.given)) (sym is) (told_given all c.args.caller.now jobs by_number more)

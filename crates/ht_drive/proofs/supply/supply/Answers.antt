@@ -68,19 +68,19 @@ loop-running-preserved-else-is_err g c =
     let here = (goal.at.loop-running-preserved-else-is_err g c).After-issue in
     let given = gives g here in
     let good : is_err c.issue.result ≡ false = sym c.is_err.ensures.value ∙ c.if-is_err.false in
-    let by_number = on_ok c.issue.result ((all : List JobView) → AreByNumber all (all_in before.helm.given) → AreByNumber all jobs
-    → AreByNumber all (all_in c.issue.new.helm.given)) good c.issue.ensures.by_number in
+    let by_number = on_ok c.issue.result ((all : List JobView) → AreByNumber all (all_in before.caller.given) → AreByNumber all jobs
+    → AreByNumber all (all_in c.issue.new.caller.given)) good c.issue.ensures.by_number in
     record {
       stands = record {
         holds = holds g here;
-        tallies = on_ok c.issue.result (Tallies c.issue.new.tally c.issue.new.helm) good c.issue.ensures.tallies;
+        tallies = on_ok c.issue.result (Tallies c.issue.new.tally c.issue.new.caller) good c.issue.ensures.tallies;
         issued = omega (arith, c.issue.ensures.issued, so_far.stands.issued, given.count);
         under_way = goes_on_more c.args.size before.running (shown before.feed)
             (shown c.next.new.self) jobs c.loop-running-test.true so_far.stands.under_way given;
       };
       leads = g.met.F.BlockFeed.goes_on c.args.feed.now c.loop-running.feed c.next.new.self so_far.leads c.next.ensures.leads;
       capacity = capacity g here;
-      same = same_on c.args.helm.now before.helm c.issue.new.helm so_far.same c.issue.ensures.same;
+      same = same_on c.args.caller.now before.caller c.issue.new.caller so_far.same c.issue.ensures.same;
       whole = c.issue.ensures.whole ∙ so_far.whole;
       turn = turn g here;
       by_number = λ all start first. by_number all (so_far.by_number all start first)

@@ -7,9 +7,9 @@ use Rattle.ht_drive.proofs.threaded.finish.Goals as goal
 pub returns-clause-ran : goal.returns-clause-ran
 returns-clause-ran g c =
     let closed = c.close-deques.result in
-    let run = subst (λ (pool : BlockPool). HasRun task_of jobs_in pool c.args.members.items closed) c.into_helm.ensures.pool c.close-deques.ensures in
-    has_run_in_pool c.args.tally c.args.helm c.args.members.items closed c.requires.tallies run
-    (subst (λ (pool : BlockPool). lacking pool.answers ≡ 0) c.into_helm.ensures.pool (c.into_helm.ensures.answered c.requires.whole))
+    let run = subst (λ (pool : BlockPool). HasRun task_of jobs_in pool c.args.members.items closed) c.into_caller.ensures.pool c.close-deques.ensures in
+    has_run_in_pool c.args.tally c.args.caller c.args.members.items closed c.requires.tallies run
+    (subst (λ (pool : BlockPool). lacking pool.answers ≡ 0) c.into_caller.ensures.pool (c.into_caller.ensures.answered c.requires.whole))
     (record {
       jobs = c.args.tally.issued;
       own = c.args.tally.own;

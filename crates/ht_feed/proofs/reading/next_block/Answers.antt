@@ -1,7 +1,7 @@
 use Rattle.std.proofs.Common.{◌≡◌, ◌+◌, [], None, refl, ap, subst, sym, ◌∙◌, arith}
 use Rattle.ht_io.proofs.Calls.{later-refl}
 use Rattle.ht_feed.specs.declared.came.Came.{Came}
-use Rattle.ht_feed.specs.Desks.{standing}
+use Rattle.ht_feed.specs.InFlights.{standing}
 use Rattle.ht_feed.specs.Reading.{CountsCame, CountsHead, Finds, GivesCame, begun, view}
 use Rattle.ht_feed.proofs.Finding.{finds_block, finds_head, finds_none}
 use Rattle.ht_feed.proofs.reading.next_block.Goals as goal

@@ -1,5 +1,5 @@
 use Rattle.std.proofs.Common.{◌≡◌, ◌≤◌, ◌+◌, [], None, true}
-use Rattle.ht_feed.specs.Desks.{standing}
+use Rattle.ht_feed.specs.InFlights.{standing}
 use Rattle.ht_feed.specs.Reading.{Finds, begun}
 use Rattle.ht_feed.proofs.reading.next_block.Given as goal
 

@@ -3,7 +3,7 @@ use Rattle.std.specs.Prelude.{IfNone, IfSome}
 use Rattle.std.proofs.lemmas.Result.{err_from_is_err_and}
 use Rattle.ht_io.specs.Devices.{Device}
 use Rattle.ht_feed.specs.declared.book_fault.BookFault.{BookFault}
-use Rattle.ht_feed.specs.Accounts.{BooksJobs}
+use Rattle.ht_feed.specs.Consumers.{BooksJobs}
 use Rattle.ht_feed.specs.Dues.{due_of, headed_due}
 use Rattle.ht_feed.specs.Items.{Headed}
 use Rattle.ht_frames.specs.Gathering.{booked_behind, finished}

@@ -1,5 +1,5 @@
 use Rattle.std.proofs.Common.{Ok, take}
-use Rattle.ht_feed.specs.Accounts.{BooksJobs}
+use Rattle.ht_feed.specs.Consumers.{BooksJobs}
 use Rattle.ht_frames.specs.Gathering.{booked_behind}
 use Rattle.ht_frames.proofs.Taking.{heads}
 use Rattle.ht_frames.proofs.decodes.take_block.Given as goal

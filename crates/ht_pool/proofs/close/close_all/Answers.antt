@@ -1,11 +1,11 @@
 use Rattle.std.proofs.Common.{◌≡◌, ◌∙◌, ◌++◌, ◌∷◌, [], length, map, ap, arith}
 use Rattle.std.proofs.lemmas.List.{map-append, length-append}
 use Rattle.std.proofs.lemmas.List.Elements.{All-push, All-same}
-use Rattle.ht_pool.specs.Seats.{OwnView}
+use Rattle.ht_pool.specs.Takers.{OwnView}
 use Rattle.ht_pool.specs.Through.{through}
 use Rattle.ht_pool.specs.Gathering.{IsAccounted, ended}
 use Rattle.ht_pool.specs.declared.ends.Ends.{Ends}
-use Rattle.ht_pool.specs.declared.hand.Hand.{Hand}
+use Rattle.ht_pool.specs.declared.pass_log.PassLog.{PassLog}
 use Rattle.ht_pool.proofs.Lists.{one_done, all_first}
 use Rattle.ht_pool.proofs.close.close_all.Goals as goal
 
@@ -19,7 +19,7 @@ loop-own-preserved g c =
     let parts = all_first (λ (o : OwnView g.row.T.Denot). o.parts ≡ 1024) c.loop-own.owners.items c.take_first.new.all.items own first was.all in
     let more : map through c.push_reserved.new.self.items ≡ map through c.loop-own.deques.items ++ ended own ∷ [] =
     ap (map through) items ∙ (map-append through c.loop-own.deques.items (ends ∷ [])
-    ∙ ap (λ (v : Hand g.row.T.Denot). map through c.loop-own.deques.items ++ v ∷ []) c.close.ensures.through) in
+    ∙ ap (λ (v : PassLog g.row.T.Denot). map through c.loop-own.deques.items ++ v ∷ []) c.close.ensures.through) in
     record {
       all = parts.1;
       places = omega (

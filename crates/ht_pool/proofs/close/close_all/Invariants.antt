@@ -1,6 +1,6 @@
 use Rattle.std.proofs.Common.{◌≡◌, ◌+◌, ◌++◌, ◌≤◌, length, map, vec_capacity}
 use Rattle.std.specs.List.{All}
-use Rattle.ht_pool.specs.Seats.{OwnView}
+use Rattle.ht_pool.specs.Takers.{OwnView}
 use Rattle.ht_pool.specs.Through.{through}
 use Rattle.ht_pool.specs.Gathering.{IsAccounted, ended}
 use Rattle.ht_pool.specs.declared.ends.Ends.{Ends}

@@ -1,5 +1,5 @@
 use Rattle.std.proofs.Common.{◌≡◌, ◌∙◌, List, length, ap, rules}
-use Rattle.ht_pool.specs.Seats.{OwnView}
+use Rattle.ht_pool.specs.Takers.{OwnView}
 use Rattle.ht_pool.specs.Gathering.{joined_rows, rows_of}
 use Rattle.ht_pool.proofs.Lists.{written_back}
 use Rattle.ht_pool.proofs.Joining.{length_rows}

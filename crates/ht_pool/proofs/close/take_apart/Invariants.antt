@@ -18,8 +18,8 @@ invariant-loop-member g l = record {
       ≡ l.fn.ran.items ++ map (λ (m : Member g.row.W-Task.Denot g.row.W-Answer.Denot). m.ran) l.fn.members.items;
   owners : l.owners.items ++ map (λ (m : Member g.row.W-Task.Denot g.row.W-Answer.Denot). m.own) l.members.items
       ≡ l.fn.owners.items ++ map (λ (m : Member g.row.W-Task.Denot g.row.W-Answer.Denot). m.own) l.fn.members.items;
-  rows : rows_of l.rows.items ++ map (λ (m : Member g.row.W-Task.Denot g.row.W-Answer.Denot). m.seats.items) l.members.items
-      ≡ rows_of l.fn.rows.items ++ map (λ (m : Member g.row.W-Task.Denot g.row.W-Answer.Denot). m.seats.items) l.fn.members.items;
+  rows : rows_of l.rows.items ++ map (λ (m : Member g.row.W-Task.Denot g.row.W-Answer.Denot). m.takers.items) l.members.items
+      ≡ rows_of l.fn.rows.items ++ map (λ (m : Member g.row.W-Task.Denot g.row.W-Answer.Denot). m.takers.items) l.fn.members.items;
   parts : (view l.pass).parts + length l.members.items ≡ (view l.fn.pass).parts + length l.fn.members.items;
   pushed : (view l.pass).pushed ++ answered_by l.members.items ≡ (view l.fn.pass).pushed ++ answered_by l.fn.members.items;
   taken : (view l.pass).taken ≡ (view l.fn.pass).taken;

@@ -3,28 +3,28 @@ use Rattle.std.specs.List.{sum_by}
 use Rattle.std.proofs.lemmas.List.{map-append}
 use Rattle.std.proofs.lemmas.List.Sums.{sum_by-append}
 use Rattle.crossbeam_queue.specs.Passes.{view as answer_view}
-use Rattle.ht_pool.specs.declared.hand.Hand.{Hand}
-use Rattle.ht_pool.specs.Seats.{Gets}
+use Rattle.ht_pool.specs.declared.pass_log.PassLog.{PassLog}
+use Rattle.ht_pool.specs.Takers.{Gets}
 use Rattle.ht_pool.proofs.Serving.{balances-ran, balances-still}
 use Rattle.ht_pool.proofs.serve.run_tasks.Goals as goal
 
 pub loop-preserved-in-Some-next_task : goal.loop-preserved-in-Some-next_task
 loop-preserved-in-Some-next_task g c =
     let was = c.loop.invariant in
-    let gets = subst (λ (task : Option g.row.W-Task.Denot). Gets c.loop.seats c.loop.own c.next_task.new.seats c.next_task.new.own task)
+    let gets = subst (λ (task : Option g.row.W-Task.Denot). Gets c.loop.takers c.loop.own c.next_task.new.takers c.next_task.new.own task)
     c.in-Some-next_task.is c.next_task.ensures in
     let gave = c.deliver-pass.ensures.pushed in
     let more : (answer_view c.deliver-pass.result).pushed ≡ (answer_view c.loop.pass).pushed ++ c.answer_to.result ∷ [] =
-    ap (λ (v : Hand g.row.W-Answer.Denot). v.pushed) gave in
+    ap (λ (v : PassLog g.row.W-Answer.Denot). v.pushed) gave in
     record {
       same = search rules;
       at = gets.at ∙ was.at;
       deque = gets.deque_is ∙ was.deque;
       parts = gets.parts_are ∙ was.parts;
       queue = c.deliver-pass.ensures.queue;
-      part = ap (λ (v : Hand g.row.W-Answer.Denot). v.parts) gave ∙ was.part;
-      none_received = ap (λ (v : Hand g.row.W-Answer.Denot). v.taken) gave ∙ was.none_received;
-      balanced = balances-ran g.W.Work.asked c.loop.seats c.next_task.new.seats c.loop.own c.next_task.new.own (answer_view c.loop.pass).pushed
+      part = ap (λ (v : PassLog g.row.W-Answer.Denot). v.parts) gave ∙ was.part;
+      none_received = ap (λ (v : PassLog g.row.W-Answer.Denot). v.taken) gave ∙ was.none_received;
+      balanced = balances-ran g.W.Work.asked c.loop.takers c.next_task.new.takers c.loop.own c.next_task.new.own (answer_view c.loop.pass).pushed
           (answer_view c.deliver-pass.result).pushed c.in-Some-next_task.task c.answer_to.result gets c.answer_to.ensures more was.balanced;
       ran = omega (
         arith,
@@ -40,7 +40,7 @@ loop-preserved-in-Some-next_task g c =
 pub loop-preserved : goal.loop-preserved
 loop-preserved g c =
     let was = c.loop.invariant in
-    let gets = subst (λ (task : Option g.row.W-Task.Denot). Gets c.loop.seats c.loop.own c.next_task.new.seats c.next_task.new.own task)
+    let gets = subst (λ (task : Option g.row.W-Task.Denot). Gets c.loop.takers c.loop.own c.next_task.new.takers c.next_task.new.own task)
     c.in-None-next_task.is c.next_task.ensures in
     record {
       same = search rules;
@@ -50,14 +50,14 @@ loop-preserved g c =
       queue = was.queue;
       part = was.part;
       none_received = was.none_received;
-      balanced = balances-still g.W.Work.asked c.loop.seats c.next_task.new.seats c.loop.own c.next_task.new.own (answer_view c.loop.pass).pushed gets
+      balanced = balances-still g.W.Work.asked c.loop.takers c.next_task.new.takers c.loop.own c.next_task.new.own (answer_view c.loop.pass).pushed gets
           was.balanced;
       ran = was.ran;
     }
 
 pub returns-then-last-clause-balanced : goal.returns-then-last-clause-balanced
 returns-then-last-clause-balanced g c =
-    let gets = subst (λ (task : Option g.row.W-Task.Denot). Gets c.loop.seats c.loop.own c.next_task.new.seats c.next_task.new.own task)
+    let gets = subst (λ (task : Option g.row.W-Task.Denot). Gets c.loop.takers c.loop.own c.next_task.new.takers c.next_task.new.own task)
     c.in-None-next_task.is c.next_task.ensures in
-    balances-still g.W.Work.asked c.loop.seats c.next_task.new.seats c.loop.own c.next_task.new.own (answer_view c.loop.pass).pushed gets
+    balances-still g.W.Work.asked c.loop.takers c.next_task.new.takers c.loop.own c.next_task.new.own (answer_view c.loop.pass).pushed gets
     c.loop.invariant.balanced

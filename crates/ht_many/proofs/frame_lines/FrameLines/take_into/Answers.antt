@@ -1,5 +1,5 @@
 use Rattle.std.proofs.Common.{◌≡◌, ◌∙◌, [], ap, sym, take, rules}
-use Rattle.ht_feed.specs.Accounts.{BooksJobs}
+use Rattle.ht_feed.specs.Consumers.{BooksJobs}
 use Rattle.ht_feed.specs.Dues.{all_due}
 use Rattle.ht_results.specs.Folding.{FrameSoFar}
 use Rattle.ht_many.specs.KeptFrames.{KeptFrames, booked_left, kept_frames}
@@ -10,12 +10,12 @@ pub returns-clause-books : goal.returns-clause-books
 returns-clause-books g c =
     let b = g.B.Book in
     let before = c.new-receiver.result in
-    let after = c.take.new.account in
+    let after = c.take.new.consumer in
     let e = c.take.ensures in
     let old : KeptFrames = kept_frames before.under_way.now [] in
     let new : KeptFrames = kept_frames after.under_way.now [] in
     let books : BooksJobs c.take.result (b.shown before.book.now) (b.shown after.book.now) (booked_left b.booked old) (booked_left b.booked new)
-    (all_due (take 1 c.args.desk.now.due)) [] [] =
+    (all_due (take 1 c.args.in_flight.now.due)) [] [] =
     record { put = e.books.put; part = e.books.part; faults = here e.books.faults } in
     let same : c.args.self.now ≡ old = sym c.self.view_is ∙ sym (ap (λ (f : FrameSoFar). kept_frames f []) c.new-receiver.ensures.under_way) in
     record {

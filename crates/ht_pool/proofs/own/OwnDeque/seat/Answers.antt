@@ -1,7 +1,0 @@
-use Rattle.std.proofs.Common.{ap, arith}
-use Rattle.ht_pool.specs.Seats.{OwnView}
-use Rattle.ht_pool.proofs.Steps.{forks}
-use Rattle.ht_pool.proofs.own.OwnDeque.seat.Goals as goal
-
-pub another-pass-requires : goal.another-pass-requires
-another-pass-requires g c = forks _ _ (omega (arith, ap (λ (o : OwnView g.row.T.Denot). o.parts) c.self.view_is, c.requires.some))
