@@ -75,7 +75,7 @@ one-times zero power low some = let e : 0 * power ≡ 0 = omega arith in ap (nat
 one-times (suc zero) power low some = le-leb 1 (1 * power) (omega (arith, some))
 one-times (suc (suc n)) power low some = absurd (omega (arith, low))
 
-marked : (label shift : ℕ) → is_one (bit_and label (2 ^ shift)) ≡ (bit_at label shift == 1)
+pub marked : (label shift : ℕ) → is_one (bit_and label (2 ^ shift)) ≡ (bit_at label shift == 1)
 marked label shift = ap is_one (and_pow label shift) ∙ one-times (bit_at label shift) (2 ^ shift) (bit_at-lt label shift) (pow_pos shift)
 
 -- the octet of a coded bit, where nothing is erased

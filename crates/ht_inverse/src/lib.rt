@@ -48,3 +48,4 @@ pub use outcome::Outcome;
 pub use share::Share;
 pub use table::Table;
 pub use together::{Together, decode_frame_together};
+pub use words::packed_words;

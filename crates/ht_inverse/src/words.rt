@@ -52,8 +52,10 @@ fn word_from(octets: &[u8], start: usize) -> u64
     }
 }
 
-/// The words of a list of octets, each of which is a 0 or, where it isn't 0, a 1. The only refusal is lack of memory.
-pub(crate) fn packed_words(alloc: Global, octets: &[u8]) -> Result<Vec<u64>, AllocError>
+/// The words of a list of octets, each of which is a 0 or, where it isn't 0, a 1: 60 to a word
+/// ([`WORD_PLACES`](ht_viterbi::WORD_PLACES)), the first one lowest, as [`decode_packed`](ht_viterbi::decode_packed) takes
+/// them. There is a word at least for each 60 that were begun. The only refusal is lack of memory.
+pub fn packed_words(alloc: Global, octets: &[u8]) -> Result<Vec<u64>, AllocError>
     ensures places { IfOk result (λ words. length octets.now ≤ 60 * length words.items) }
     ensures marks { IfOk result (λ words. HasMarks words.items octets.now (length octets.now)) }
 {

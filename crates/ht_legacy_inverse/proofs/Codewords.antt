@@ -1,13 +1,8 @@
 -- The codeword of a frame.
-use Rattle.std.proofs.Common.{◌≡◌, ℕ, ◌+◌, ◌*◌, ◌≤◌, List, map, length, take, Bool, Option, sym, ap, ◌∙◌}
-use Rattle.std.proofs.lemmas.List.{length-map}
-use Rattle.std.proofs.lemmas.List.FromFn.{length-map-range_with_len}
+use Rattle.std.proofs.Common.{◌≡◌, ℕ, ◌+◌, ◌*◌, ◌≤◌, List, take, Bool, Option, ap, ◌∙◌}
 use Rattle.ht_rate.specs.declared.kinds.Pattern.{Pattern}
-use Rattle.ht_conv.specs.Puncturing.{sent_count}
 use Rattle.ht_viterbi.specs.declared.codeword.Codeword.{Codeword}
-use Rattle.ht_viterbi.specs.declared.received_bit.ReceivedBit.{ReceivedBit}
 use Rattle.ht_viterbi.specs.Inputs.{IsFound, place_cost, tail}
-use Rattle.ht_viterbi.specs.Received.{known_of}
 use Rattle.ht_inverse.specs.declared.decoded.Decoded.{Decoded}
 use Rattle.ht_inverse.specs.declared.outcome.Outcome.{Outcome}
 use Rattle.ht_inverse.specs.Decoding.{outcome_of}
@@ -16,18 +11,7 @@ use Rattle.ht_clause18.specs.declared.rates.LegacyRate.{LegacyRate}
 use Rattle.ht_clause18.specs.Rates.{needed_bits, pattern_of}
 use Rattle.ht_legacy_inverse.specs.Decoding.{input_of, legacy_decoded_frame, scrambled_bits}
 use Rattle.ht_legacy_inverse.specs.Places.{IsCodewordOf}
-use Rattle.ht_legacy_inverse.specs.Received.{received_at, received_of}
-
--- a received list has a place for each bit that is kept of the codeword's steps
-pub received-length : (r : LegacyRate) (octets steps : ℕ) (labels : List ℕ) (p : Pattern) (bits : List ReceivedBit) → steps ≡ needed_bits octets
-    → p ≡ pattern_of r
-    → map known_of bits ≡ received_of r octets labels → length bits ≡ sent_count p steps
-unfolding received_of
-received-length r octets steps labels p bits steps_are p_is are =
-    sym (length-map bits known_of)
-    ∙ (ap (λ (xs : List (Option Bool)). length xs) are
-    ∙ (length-map-range_with_len (received_at r labels) 0 (sent_count (pattern_of r) (needed_bits octets))
-    ∙ sym (ap (λ (q : Pattern). sent_count q steps) p_is ∙ ap (λ (n : ℕ). sent_count (pattern_of r) n) steps_are)))
+use Rattle.ht_legacy_inverse.specs.Received.{received_of}
 
 -- what is decoded is the codeword of the frame
 pub codeword-is : (r : LegacyRate) (octets steps : ℕ) (labels : List ℕ) (p : Pattern) (received : List (Option Bool)) (c : Codeword)

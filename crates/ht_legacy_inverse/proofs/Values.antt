@@ -39,6 +39,6 @@ unfolding coded_bits_of label_bits_of axis_bits_of modulation_of first second pl
 other_bits_of_16_qam = refl
 
 -- in 64-QAM on place 20, which is bit 2 of label 3, with three bits behind it
-place_of_64_qam : label_place_of Mbit54 1 ≡ record { carrier = 3; shift = 3 }
+place_of_64_qam : label_place_of Mbit54 1 ≡ record { carrier = 3; mask = 0b1000 }
 unfolding coded_bits_of label_bits_of axis_bits_of first second place_of label_place_of
 place_of_64_qam = refl

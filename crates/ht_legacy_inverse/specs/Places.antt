@@ -1,5 +1,5 @@
 -- Where the labels of a symbol have its coded bits.
-use Rattle.std.specs.Prelude.{◌≡◌, ℕ, ◌-◌, ◌/◌, ◌%◌, ◌<◌, List, length, slice_index_or}
+use Rattle.std.specs.Prelude.{◌≡◌, ℕ, ◌-◌, ◌/◌, ◌%◌, ◌^◌, ◌<◌, List, length, slice_index_or}
 use Rattle.ht_clause18.specs.declared.rates.LegacyRate.{LegacyRate}
 use Rattle.ht_clause18.specs.Interleaver.{place_of}
 use Rattle.ht_clause18.specs.Rates.{coded_bits_of, label_bits_of}
@@ -7,13 +7,13 @@ use Rattle.ht_viterbi.specs.declared.codeword.Codeword.{Codeword}
 use Rattle.ht_legacy_inverse.specs.Decoding.{input_of, legacy_decoded_frame}
 use Rattle.ht_legacy_inverse.specs.declared.label_place.LabelPlace.{LabelPlace}
 
--- where the labels of a symbol have coded bit k: which one, and how many of its bits stand behind it
+-- where the labels of a symbol have coded bit k: which one, and the label in which this bit alone is 1
 unfoldable pub label_place_of : LegacyRate → ℕ → LabelPlace
-label_place_of r k = record { carrier = place_of r k / label_bits_of r; shift = label_bits_of r - 1 - place_of r k % label_bits_of r }
+label_place_of r k = record { carrier = place_of r k / label_bits_of r; mask = 2 ^ (label_bits_of r - 1 - place_of r k % label_bits_of r) }
 
--- the first label's last bit
+-- no bit of the first label
 abbrev pub no_place : LabelPlace
-no_place = record { carrier = 0; shift = 0 }
+no_place = record { carrier = 0; mask = 0 }
 
 -- a table has the place of each coded bit of a symbol; behind them there may be more
 pub record AreLabelPlaces (r : LegacyRate) (places : List LabelPlace) : Type 0 where

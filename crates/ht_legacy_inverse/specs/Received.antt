@@ -3,6 +3,7 @@ use Rattle.std.specs.Prelude.{ℕ, ◌+◌, ◌*◌, ◌/◌, ◌%◌, List, map
 use Rattle.std.specs.List.{range_with_len}
 use Rattle.ht_conv.specs.Puncturing.{sent_count}
 use Rattle.ht_map.specs.Gray.{label_bit}
+use Rattle.ht_inverse.specs.Shares.{is_one}
 use Rattle.ht_clause18.specs.declared.rates.LegacyRate.{LegacyRate}
 use Rattle.ht_clause18.specs.Interleaver.{place_of}
 use Rattle.ht_clause18.specs.Rates.{coded_bits_of, label_bits_of, modulation_of, needed_bits, pattern_of, symbols_of}
@@ -31,3 +32,7 @@ received_at r labels q = Some (at_place r labels (q / coded_bits_of r) (place_of
 -- the received list: the coded bits of SERVICE, of the octets and of the tail
 unfoldable pub received_of : LegacyRate → ℕ → List ℕ → List (Option Bool)
 received_of r octets labels = map (received_at r labels) (range_with_len 0 (sent_count (pattern_of r) (needed_bits octets)))
+
+-- what an octet says that isn't 0 where the coded bit was received as 1
+unfoldable pub told_by : ℕ → Option Bool
+told_by mark = Some (is_one mark)

@@ -5,11 +5,11 @@ ghost use Rattle.ht_inverse.specs.Decoding.{outcome_of};
 ghost use Rattle.ht_legacy_inverse.specs.Decoding.{legacy_decoded_frame};
 ghost use Rattle.ht_legacy_inverse.specs.Received.{labels_in_frame};
 
-use crate::gather::{received, steps};
+use crate::gather::{received_words, steps};
 use ht_bits::Bits;
 use ht_clause18::LegacyRate;
 use ht_inverse::{Decoded, Outcome, come_to};
-use ht_viterbi::decode_received;
+use ht_viterbi::decode_packed;
 use std::alloc::{AllocError, Global};
 
 // The bits of SERVICE.
@@ -41,8 +41,8 @@ pub fn legacy_decode_frame(
     requires labels { length labels.now ≡ labels_in_frame rate octets }
     ensures { IfOk result (λ frame. frame ≡ legacy_decoded_frame rate octets labels.now) }
 {
-    let bits = received(alloc, rate, octets, labels)?;
-    let codeword = decode_received(alloc, steps(octets), rate.pattern(), bits.as_slice())?;
+    let words = received_words(alloc, rate, octets, labels)?;
+    let codeword = decode_packed(alloc, steps(octets), rate.pattern(), words.as_slice())?;
     let code = codeword.distance;
     let outcome = input_comes_to(alloc, octets, codeword.input)?;
     Ok(Decoded { outcome, code })

@@ -1,18 +1,17 @@
-//! The received list of a frame.
-ghost use Rattle.std.specs.Prelude.{◌≡◌, ◌+◌, ◌*◌, ◌<◌, ◌≤◌, ◌==◌, IfOk, Some, length, map, vec_len, vec_capacity};
-ghost use Rattle.std.specs.Int.{bit_at};
+//! The received list of a frame, as an octet for each coded bit, and as words.
+ghost use Rattle.std.specs.Prelude.{◌≡◌, ◌+◌, ◌*◌, ◌<◌, ◌≤◌, IfOk, length, map, vec_len, vec_capacity};
 ghost use Rattle.std.specs.List.{range_with_len};
 ghost use Rattle.ht_clause18.specs.Rates.{coded_bits_of, needed_bits, pattern_of, symbols_of};
 ghost use Rattle.ht_conv.specs.Puncturing.{sent_count};
-ghost use Rattle.ht_viterbi.specs.Received.{known_of};
+ghost use Rattle.ht_viterbi.specs.Packed.{packed};
 ghost use Rattle.ht_legacy_inverse.specs.Places.{AreLabelPlaces};
-ghost use Rattle.ht_legacy_inverse.specs.Received.{labels_in_frame, received_at, received_of};
+ghost use Rattle.ht_legacy_inverse.specs.Received.{labels_in_frame, received_at, received_of, told_by};
 
 use crate::label_place::LabelPlace;
 use crate::places::label_places;
 use ht_clause18::LegacyRate;
 use ht_conv::sent;
-use ht_viterbi::ReceivedBit;
+use ht_inverse::packed_words;
 use std::alloc::{AllocError, Global};
 
 // The labels of a symbol.
@@ -28,37 +27,18 @@ pub(crate) fn steps(octets: u16) -> u32
     FRAMING + 8 * u32::from(octets)
 }
 
-// The bit that a label has at a place.
+// A coded bit of a symbol, out of the symbol's labels: 0 where it is 0.
 #[inline(always)]
-fn bit_of(label: u8, place: LabelPlace) -> ReceivedBit
-    requires { place.shift < 8 }
-    ensures { known_of result ≡ Some (bit_at label place.shift == 1) }
-{
-    if label >> place.shift & 1 == 1 {
-        ReceivedBit::One
-    } else {
-        ReceivedBit::Zero
-    }
-}
-
-// A coded bit of a symbol, out of the symbol's labels.
-#[inline(always)]
-fn coded_bit(
-    rate: LegacyRate,
-    places: &[LabelPlace; 288],
-    labels: &[u8],
-    symbol: u32,
-    k: u16,
-) -> ReceivedBit
+fn coded_bit(rate: LegacyRate, places: &[LabelPlace; 288], labels: &[u8], symbol: u32, k: u16) -> u8
     requires places { AreLabelPlaces rate places.now }
     requires labels { symbol * 48 + 48 ≤ length labels.now }
     requires place { k < coded_bits_of rate }
-    ensures { known_of result ≡ received_at rate labels.now (symbol * coded_bits_of rate + k) }
+    ensures { told_by result ≡ received_at rate labels.now (symbol * coded_bits_of rate + k) }
 {
     let _size = rate.coded_bits(); // at most 288, which only the proof asks for
     let place = places[usize::from(k)];
     let at = symbol as usize * LABELS + usize::from(place.carrier);
-    bit_of(labels[at], place)
+    labels[at] & place.mask
 }
 
 // Puts the first coded bits of a symbol, this number of them, behind those of the symbols in front of it. So nothing is
@@ -69,14 +49,14 @@ fn push_symbol(
     labels: &[u8],
     symbol: u32,
     count: u16,
-    bits: &mut Vec<ReceivedBit>,
+    bits: &mut Vec<u8>,
 )
     requires places { AreLabelPlaces rate places.now }
     requires labels { symbol * 48 + 48 ≤ length labels.now }
     requires few { count ≤ coded_bits_of rate }
     requires room { vec_len bits.old + count ≤ vec_capacity bits.old }
-    requires before { map known_of bits.old.items ≡ map (received_at rate labels.now) (range_with_len 0 (symbol * coded_bits_of rate)) }
-    ensures bits { map known_of bits.new.items ≡ map (received_at rate labels.now) (range_with_len 0 (symbol * coded_bits_of rate + count)) }
+    requires before { map told_by bits.old.items ≡ map (received_at rate labels.now) (range_with_len 0 (symbol * coded_bits_of rate)) }
+    ensures bits { map told_by bits.new.items ≡ map (received_at rate labels.now) (range_with_len 0 (symbol * coded_bits_of rate + count)) }
     ensures len { vec_len bits.new ≡ vec_len bits.old + count }
     ensures capacity { vec_capacity bits.new ≡ vec_capacity bits.old }
 {
@@ -93,16 +73,16 @@ fn coded_bits(rate: LegacyRate, octets: u16) -> usize
     sent(rate.pattern(), steps(octets)) as usize
 }
 
-/// The received list of a frame. The only refusal is lack of memory.
-pub(crate) fn received(
+// The received list of a frame, an octet for each coded bit. The only refusal is lack of memory.
+fn received(
     alloc: Global,
     rate: LegacyRate,
     octets: u16,
     labels: &[u8],
-) -> Result<Vec<ReceivedBit>, AllocError>
+) -> Result<Vec<u8>, AllocError>
     requires octets { (1 ≤ octets) × (octets ≤ 4095) }
     requires labels { length labels.now ≡ labels_in_frame rate octets }
-    ensures { IfOk result (λ bits. map known_of bits.items ≡ received_of rate octets labels.now) }
+    ensures { IfOk result (λ bits. map told_by bits.items ≡ received_of rate octets labels.now) }
 {
     let places = label_places(rate);
     let _symbols = rate.symbols(octets); // how many are enough, which only the proof asks for
@@ -118,4 +98,20 @@ pub(crate) fn received(
         left -= usize::from(taken);
     }
     Ok(bits)
+}
+
+/// The received list of a frame, 60 places to a word. The only refusal is lack of memory.
+pub(crate) fn received_words(
+    alloc: Global,
+    rate: LegacyRate,
+    octets: u16,
+    labels: &[u8],
+) -> Result<Vec<u64>, AllocError>
+    requires octets { (1 ≤ octets) × (octets ≤ 4095) }
+    requires labels { length labels.now ≡ labels_in_frame rate octets }
+    ensures places { IfOk result (λ words. sent_count (pattern_of rate) (needed_bits octets) ≤ 60 * length words.items) }
+    ensures list { IfOk result (λ words. packed words.items (sent_count (pattern_of rate) (needed_bits octets)) ≡ received_of rate octets labels.now) }
+{
+    let marks = received(alloc, rate, octets, labels)?;
+    packed_words(alloc, marks.as_slice())
 }

@@ -5,6 +5,6 @@
 pub(crate) struct LabelPlace {
     // The data subcarrier, 0 to 47.
     pub(crate) carrier: u8,
-    // The number of bits of its label that stand behind the bit.
-    pub(crate) shift: u8,
+    // The label in which this bit alone is 1.
+    pub(crate) mask: u8,
 }

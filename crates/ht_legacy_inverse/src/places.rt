@@ -19,7 +19,7 @@ fn label_place(rate: LegacyRate, k: u16) -> LabelPlace
     let bits = u16::from(rate.label_bits());
     LabelPlace {
         carrier: (place / bits) as u8,
-        shift: (bits - 1 - place % bits) as u8,
+        mask: 1 << (bits - 1 - place % bits),
     }
 }
 
@@ -29,7 +29,7 @@ pub(crate) fn label_places(rate: LegacyRate) -> [LabelPlace; 288]
 {
     let mut places = [LabelPlace {
         carrier: 0,
-        shift: 0,
+        mask: 0,
     }; MOST];
     for k in 0..rate.coded_bits() {
         places[usize::from(k)] = label_place(rate, k);

@@ -1,14 +1,18 @@
-use Rattle.std.proofs.Common.{◌≡◌, ◌∙◌, List, ap, map, refl, arith}
-use Rattle.ht_viterbi.specs.declared.received_bit.ReceivedBit.{ReceivedBit}
-use Rattle.ht_viterbi.specs.Received.{known_of}
+use Rattle.std.proofs.Common.{◌≡◌, ◌∙◌, ◌*◌, ◌≤◌, ℕ, List, Bool, Option, ap, arith, length, refl, subst, sym}
+use Rattle.ht_clause18.specs.Rates.{needed_bits, pattern_of}
+use Rattle.ht_conv.specs.Puncturing.{sent_count}
+use Rattle.ht_rate.specs.declared.kinds.Pattern.{Pattern}
+use Rattle.ht_viterbi.specs.Packed.{packed}
 use Rattle.ht_legacy_inverse.specs.Received.{received_of}
-use Rattle.ht_legacy_inverse.proofs.Codewords.{codeword-is, frame-is, received-length}
+use Rattle.ht_legacy_inverse.proofs.Codewords.{codeword-is, frame-is}
 use Rattle.ht_legacy_inverse.proofs.decoder.legacy_decode_frame.Goals as goal
 
-pub decode_received-requires-clause-received : goal.decode_received-requires-clause-received
-decode_received-requires-clause-received c =
-    received-length c.args.rate c.args.octets c.steps.result c.args.labels.now c.pattern.result c.as_slice.result.now c.steps.ensures.value c.pattern.ensures
-    (ap (λ (xs : List ReceivedBit). map known_of xs) c.as_slice.ensures.value ∙ c.in_ok-bits.ensures)
+pub decode_packed-requires-clause-places : goal.decode_packed-requires-clause-places
+decode_packed-requires-clause-places c =
+    let words = c.in_ok-words.words.items in
+    subst (λ (ws : List ℕ). sent_count c.pattern.result c.steps.result ≤ 60 * length ws) (sym c.as_slice.ensures.value)
+    (subst (λ (n : ℕ). sent_count c.pattern.result n ≤ 60 * length words) (sym c.steps.ensures.value)
+    (subst (λ (p : Pattern). sent_count p (needed_bits c.args.octets) ≤ 60 * length words) (sym c.pattern.ensures) c.in_ok-words.ensures.places))
 
 pub input_comes_to-requires : goal.input_comes_to-requires
 input_comes_to-requires c = c.in_ok-codeword.ensures.steps ∙ c.steps.ensures.value
@@ -16,11 +20,17 @@ input_comes_to-requires c = c.in_ok-codeword.ensures.steps ∙ c.steps.ensures.v
 pub returns : goal.returns
 returns c =
     let codeword = c.in_ok-codeword.codeword in
-    let received = map known_of c.as_slice.result.now in
-    let are : received ≡ received_of c.args.rate c.args.octets c.args.labels.now =
-    ap (λ (xs : List ReceivedBit). map known_of xs) c.as_slice.ensures.value ∙ c.in_ok-bits.ensures in
+    let r = c.args.rate in
+    let labels = c.args.labels.now in
+    let p = c.pattern.result in
     let steps = c.steps.ensures.value in
-    let found = codeword-is c.args.rate c.args.octets c.steps.result c.args.labels.now c.pattern.result received codeword steps c.pattern.ensures are
+    let words = c.as_slice.result.now in
+    let received : List (Option Bool) = packed words (sent_count p c.steps.result) in
+    let are : received ≡ received_of r c.args.octets labels =
+    ap (λ (q : Pattern). packed words (sent_count q c.steps.result)) c.pattern.ensures
+    ∙ (ap (λ (n : ℕ). packed words (sent_count (pattern_of r) n)) steps
+    ∙ (ap (λ (ws : List ℕ). packed ws (sent_count (pattern_of r) (needed_bits c.args.octets))) c.as_slice.ensures.value ∙ c.in_ok-words.ensures.list)) in
+    let found = codeword-is r c.args.octets c.steps.result labels p received codeword steps c.pattern.ensures are
     (omega (arith, steps)) c.in_ok-codeword.ensures in
-    frame-is c.args.rate c.args.octets c.args.labels.now codeword c.in_ok-outcome.outcome
+    frame-is r c.args.octets labels codeword c.in_ok-outcome.outcome
     (record { outcome = c.in_ok-outcome.outcome; code = codeword.distance }) found c.in_ok-outcome.ensures refl

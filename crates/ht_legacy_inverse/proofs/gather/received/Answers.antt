@@ -2,8 +2,7 @@ use Rattle.std.proofs.Common.{rules, ◌≡◌, ℕ, ◌+◌, ◌-◌, ◌*◌, 
 use Rattle.std.specs.List.{range_with_len}
 use Rattle.std.proofs.Math.Nat.{min-le_left}
 use Rattle.ht_clause18.specs.Rates.{coded_bits_of, symbols_of}
-use Rattle.ht_viterbi.specs.Received.{known_of}
-use Rattle.ht_legacy_inverse.specs.Received.{received_at}
+use Rattle.ht_legacy_inverse.specs.Received.{received_at, told_by}
 use Rattle.ht_legacy_inverse.proofs.Gathered.{all-bits, symbol-left, whole-symbol}
 use Rattle.ht_legacy_inverse.proofs.gather.received.Goals as goal
 
@@ -11,7 +10,7 @@ pub loop-left-init : goal.loop-left-init
 loop-left-init c =
     let count = c.coded_bits-count.result in
     let none : 0 ≡ count - count = omega arith in
-    let start : map known_of c.in_ok-bits.bits.items ≡ map (received_at c.args.rate c.args.labels.now) (range_with_len 0 0) = search rules in
+    let start : map told_by c.in_ok-bits.bits.items ≡ map (received_at c.args.rate c.args.labels.now) (range_with_len 0 0) = search rules in
     record {
       items = start ∙ ap (λ (n : ℕ). map (received_at c.args.rate c.args.labels.now) (range_with_len 0 n)) none;
       len = omega (arith, c.in_ok-bits.ensures.len);
