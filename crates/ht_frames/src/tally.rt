@@ -53,9 +53,9 @@ impl<K: Kind> Tally<K> {
         })
     }
 
-    // Adds one more job, found between the two calls of a gate, and answers its distance. The only error is lack of memory.
+    /// Adds one more job, found between the two calls of a gate, and answers its distance. The only error is lack of memory.
     #[inline(always)]
-    fn add<G: Gate>(&mut self, job: &Job, gate: &G) -> Result<u128, AllocError>
+    pub fn add<G: Gate>(&mut self, job: &Job, gate: &G) -> Result<u128, AllocError>
         requires few { self.old.jobs + 1 < 2 ^ 16 }
         requires bounded { self.old.data_sum + self.old.pilot_sum ≤ self.old.jobs * 2 ^ 66 }
         requires long { length self.old.places ≡ length self.old.values.items }
