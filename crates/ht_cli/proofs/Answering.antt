@@ -15,7 +15,7 @@ use Rattle.ht_runs.proofs.Known.{by_part, known_all, takes_of}
 use Rattle.ht_cli.specs.declared.status.Status.{Status}
 use Rattle.ht_cli.specs.declared.status.Status.TheVariants.{Refused, WriteFault, NoMemory as OutOfMemory}
 use Rattle.ht_cli.specs.Commands.{Answers, Converts, IsWritten, Reads, WritesPart}
-use Rattle.ht_cli.specs.Stopping.{Settles}
+use Rattle.ht_cli.specs.Stopping.{Settles, status_of}
 
 -- what holds of known octets by two facts
 both : (known : Option (List ℕ)) (P Q R : List ℕ → Type 0) → IfSome known P → IfSome known Q → ((xs : List ℕ) → P xs → Q xs → R xs) → IfSome known R
@@ -80,16 +80,16 @@ module _ (f : Filter) (ends : EndsWithItsFault f) (a b c : Device ℕ) where
       → Streamed f a b c d Says result → IsLater c d → Settles result d e status → Answers (Reads f) a b c e status
   streams Says (Ok answer) d e status run later (is, same) =
       subst (λ s. Answers (Reads f) a b c e s) (sym is) (subst (λ (k : Device ℕ). FinishesRun f a b c k) (sym same) run.0)
-  streams Says (Err (Format fault)) d e status run later (inl (is, line)) =
-      subst (λ s. Answers (Reads f) a b c e s) (sym is) (refused d later fault run e line)
-  streams Says (Err (Format fault)) d e status run later (inr (inl (is, line, rose))) =
-      subst (λ s. Answers (Reads f) a b c e s) (sym is) (refused_in_part d later fault run e line rose)
-  streams Says (Err (Format fault)) d e status run later (inr (inr (is, same))) =
-      subst (λ s. Answers (Reads f) a b c e s) (sym is)
+  streams Says (Err (Format fault)) d e status run later (last, is, inl (so, line)) =
+      subst (λ s. Answers (Reads f) a b c e s) (sym (is ∙ ap status_of so)) (refused d later fault run e line)
+  streams Says (Err (Format fault)) d e status run later (last, is, inr (inl (so, line, rose))) =
+      subst (λ s. Answers (Reads f) a b c e s) (sym (is ∙ ap status_of so)) (refused_in_part d later fault run e line rose)
+  streams Says (Err (Format fault)) d e status run later (last, is, inr (inr (so, same))) =
+      subst (λ s. Answers (Reads f) a b c e s) (sym (is ∙ ap status_of so))
       (subst (λ (k : Device ℕ). PutsPart f.front a b c k) (sym same) (unrefused_yet d later fault run e))
-  streams Says (Err Read) d e status run later (is, same) =
-      subst (λ s. Answers (Reads f) a b c e s) (sym is) (subst (λ (k : Device ℕ). BreaksOff f a b c k) (sym same) run)
-  streams Says (Err Write) d e status (part, rose) later (is, same) =
+  streams Says (Err Read) d e status run later (last, is, (so, same)) =
+      subst (λ s. Answers (Reads f) a b c e s) (sym (is ∙ ap status_of so)) (subst (λ (k : Device ℕ). BreaksOff f a b c k) (sym same) run)
+  streams Says (Err Write) d e status (part, rose) later (last, is, (so, same)) =
       let own : (octets : List ℕ) → GrowsByPart c d (unrefused f octets) → GrowsByPart c d (f.text octets) =
       λ octets put. whole_part c d octets (f.fault octets) refl put in
       let whole : PutsPart f.text a b c d = record {
@@ -98,10 +98,10 @@ module _ (f : Filter) (ends : EndsWithItsFault f) (a b c : Device ℕ) where
         text = own part.taken part.text;
         of_all = IfSome_then a.known part.of_all own;
       } in
-      subst (λ s. Answers (Reads f) a b c e s) (sym is)
+      subst (λ s. Answers (Reads f) a b c e s) (sym (is ∙ ap status_of so))
       (subst (λ (k : Device ℕ). PutsPart f.text a b c k) (sym same) whole, subst (λ (k : Device ℕ). Rose c k) (sym same) rose)
-  streams Says (Err NoMemory) d e status run later (is, same) =
-      subst (λ s. Answers (Reads f) a b c e s) (sym is) (subst (λ (k : Device ℕ). PutsPart f.front a b c k) (sym same) run)
+  streams Says (Err NoMemory) d e status run later (last, is, (so, same)) =
+      subst (λ s. Answers (Reads f) a b c e s) (sym (is ∙ ap status_of so)) (subst (λ (k : Device ℕ). PutsPart f.front a b c k) (sym same) run)
 
 -- a run that reads its input to its end first
 module _ (f : Conversion) (lines : (fault : FormatFault) → line_of_fault fault ≡ f.refusal fault) (a b c : Device ℕ) where
@@ -145,17 +145,17 @@ module _ (f : Conversion) (lines : (fault : FormatFault) → line_of_fault fault
       → Converted f a b c d Says result → Settles result d e status → Answers (Converts f) a b c e status
   converts Says (Ok answer) d e status run (is, same) =
       subst (λ s. Answers (Converts f) a b c e s) (sym is) (subst (λ (k : Device ℕ). PutsOutput f a b c k) (sym same) run.0)
-  converts Says (Err (Format fault)) d e status run (inl (is, line)) =
-      subst (λ s. Answers (Converts f) a b c e s) (sym is) (not_converted fault d e run line)
-  converts Says (Err (Format fault)) d e status run (inr (inl (is, line, rose))) =
-      subst (λ s. Answers (Converts f) a b c e s) (sym is) (line_in_part fault d e run line rose)
-  converts Says (Err (Format fault)) d e status run (inr (inr (is, same))) =
-      subst (λ s. Answers (Converts f) a b c e s) (sym is)
+  converts Says (Err (Format fault)) d e status run (last, is, inl (so, line)) =
+      subst (λ s. Answers (Converts f) a b c e s) (sym (is ∙ ap status_of so)) (not_converted fault d e run line)
+  converts Says (Err (Format fault)) d e status run (last, is, inr (inl (so, line, rose))) =
+      subst (λ s. Answers (Converts f) a b c e s) (sym (is ∙ ap status_of so)) (line_in_part fault d e run line rose)
+  converts Says (Err (Format fault)) d e status run (last, is, inr (inr (so, same))) =
+      subst (λ s. Answers (Converts f) a b c e s) (sym (is ∙ ap status_of so))
       (subst (λ (k : Device ℕ). LacksMemory f a b c k f.memory) (sym (same ∙ run.nothing)) (nothing_put f f.memory a b c))
-  converts Says (Err Read) d e status run (is, same) =
-      subst (λ s. Answers (Converts f) a b c e s) (sym is) (subst (λ (k : Device ℕ). LeavesOff f a b c k) (sym same) run)
-  converts Says (Err Write) d e status (part, rose) (is, same) =
-      subst (λ s. Answers (Converts f) a b c e s) (sym is)
+  converts Says (Err Read) d e status run (last, is, (so, same)) =
+      subst (λ s. Answers (Converts f) a b c e s) (sym (is ∙ ap status_of so)) (subst (λ (k : Device ℕ). LeavesOff f a b c k) (sym same) run)
+  converts Says (Err Write) d e status (part, rose) (last, is, (so, same)) =
+      subst (λ s. Answers (Converts f) a b c e s) (sym (is ∙ ap status_of so))
       (subst (λ (k : Device ℕ). WritesPart f a b c k) (sym same) (part_of_output d part), subst (λ (k : Device ℕ). Rose c k) (sym same) rose)
-  converts Says (Err NoMemory) d e status run (is, same) =
-      subst (λ s. Answers (Converts f) a b c e s) (sym is) (subst (λ (k : Device ℕ). LacksMemory f a b c k f.memory) (sym same) run)
+  converts Says (Err NoMemory) d e status run (last, is, (so, same)) =
+      subst (λ s. Answers (Converts f) a b c e s) (sym (is ∙ ap status_of so)) (subst (λ (k : Device ℕ). LacksMemory f a b c k f.memory) (sym same) run)

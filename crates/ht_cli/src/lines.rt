@@ -1,15 +1,15 @@
 //! The lines that a run puts itself: the last one, or how the program is called.
 ghost use Rattle.std.specs.Prelude.{◌≡◌, ◌≢◌, ℕ, List, Err, IfOk, OnErr};
-ghost use Rattle.ht_io.specs.Kinds.{name_of};
 ghost use Rattle.ht_runs.specs.declared.faults.RunFault.TheVariants.{Write as FailedWrite};
-ghost use Rattle.ht_text.specs.Lines.{refused_text, usage_text};
+ghost use Rattle.ht_text.specs.Lines.{usage_text};
 ghost use Rattle.ht_cli.specs.Putting.{PutsLine};
-ghost use Rattle.ht_cli.specs.Stopping.{Settles};
+ghost use Rattle.ht_cli.specs.Stopping.{Settles, status_of};
 
 use crate::status::Status;
-use ht_io::{FormatFault, Sink};
+use ht_io::Sink;
+use ht_receive::put_last;
 use ht_runs::RunFault;
-use ht_text::{refused_line, usage_line};
+use ht_text::usage_line;
 use std::alloc::{AllocError, Global};
 
 /// Puts a line, and gives the status `then` with which the run ends. Where there was no memory for the line, the sink is as
@@ -38,13 +38,17 @@ pub fn put_usage<K: Sink>(alloc: Global, sink: &mut K) -> Status
     put_line(usage_line(alloc), Status::Usage, sink)
 }
 
-// Puts the line of a fault of the format.
-fn put_refused<K: Sink>(alloc: Global, fault: FormatFault, sink: &mut K) -> Status
-    ensures puts { PutsLine (refused_text (name_of fault.kind) fault.offset) Status.Refused (K.shown sink.old) (K.shown sink.new) result }
-    ensures writes { result ≢ Status.WriteFault → (K.shown sink.new).faults ≡ (K.shown sink.old).faults }
+// The status of a run that has put its last line, and then answers so.
+fn status_for(answer: Result<u64, RunFault>) -> Status
+    ensures { result ≡ status_of answer }
 {
-    let line = refused_line(alloc, fault.kind.name(), fault.offset);
-    put_line(line, Status::Refused, sink)
+    match answer {
+        Ok(_) => Status::Done,
+        Err(RunFault::Format(_)) => Status::Refused,
+        Err(RunFault::Read) => Status::ReadFault,
+        Err(RunFault::Write) => Status::WriteFault,
+        Err(RunFault::NoMemory) => Status::NoMemory,
+    }
 }
 
 /// Ends a run whose call has answered: gives the status, and puts the line `refused NAME at OFFSET` where the answer is a fault
@@ -56,9 +60,6 @@ pub fn settle<A: Drop, K: Sink>(alloc: Global, ran: Result<A, RunFault>, sink: &
 {
     match ran {
         Ok(_) => Status::Done,
-        Err(RunFault::Format(fault)) => put_refused(alloc, fault, sink),
-        Err(RunFault::Read) => Status::ReadFault,
-        Err(RunFault::Write) => Status::WriteFault,
-        Err(RunFault::NoMemory) => Status::NoMemory,
+        Err(fault) => status_for(put_last(alloc, Err(fault), sink)),
     }
 }

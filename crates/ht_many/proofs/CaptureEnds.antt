@@ -1,5 +1,5 @@
 -- What the lanes of captures came to, capture by capture.
-use Rattle.std.specs.Prelude.{◌≡◌, ◌≢◌, ℕ, ◌<◌, ◌≤◌, List, [], length, map, get_or, Bool, true, false, nat_lt, Option, None, Result, Ok, Err, IfOk, MatchResult}
+use Rattle.std.specs.Prelude.{◌≡◌, ◌≢◌, ℕ, ◌<◌, ◌≤◌, List, [], length, map, get_or, Bool, true, false, nat_lt, Option, None, Result, Ok, Err, IfOk}
 use Rattle.std.proofs.Common.{refl, ap, ◌∙◌, sym, subst, arith}
 use Rattle.std.specs.Global.{Vec}
 use Rattle.std.proofs.lemmas.Bool.Decides.{nat_tests}
@@ -9,15 +9,14 @@ use Rattle.ht_io.proofs.Calls.{later-refl}
 use Rattle.ht_capture_blocks.specs.declared.reader.CaptureReader.{CaptureReader}
 use Rattle.ht_capture.specs.declared.items.FrameHead.{FrameHead}
 use Rattle.ht_runs.specs.declared.faults.RunFault.{RunFault}
-use Rattle.ht_runs.specs.declared.faults.RunFault.TheVariants.{Format, Read, Write, NoMemory}
+use Rattle.ht_runs.specs.declared.faults.RunFault.TheVariants.{Read, Write, NoMemory}
 use Rattle.ht_feed.specs.declared.ended.Ended.{Ended}
 use Rattle.ht_feed.specs.declared.book_fault.BookFault.{BookFault}
 use Rattle.ht_feed.specs.Consumers.{Telling}
 use Rattle.ht_feed.specs.InFlights.{InFlightView, in_flight_view}
 use Rattle.ht_feed.specs.Outcomes.{Comes}
 use Rattle.ht_feed.specs.Telling.{TellsBy, seen_by}
-use Rattle.ht_results.specs.Texts.{frame_lines_of, result_line, rx_text}
-use Rattle.ht_rx.specs.Outcomes.{StopsBy, TellsTo}
+use Rattle.ht_results.specs.Texts.{result_line, rx_text}
 use Rattle.ht_rx.proofs.Blocks.{comes_to}
 use Rattle.ht_rx.proofs.BlockBooking.{gathered_told}
 use Rattle.ht_rx.proofs.Booking.{lines_told}
@@ -33,21 +32,11 @@ use Rattle.ht_many.specs.Alone.{Heard, PutsPieces}
 use Rattle.ht_many.specs.Several.{AreLater, Devices, EachEnds, EachHeard, EachInPart, answer_at, devices}
 use Rattle.ht_many.specs.LastLines.{EachFinishes, EachMayFinish, FinishesEach}
 use Rattle.ht_many.proofs.LastLines.{each_ends, each_in_part, last_later}
-use Rattle.ht_many.proofs.Ending.{heard_part}
+use Rattle.ht_many.proofs.Ended.{heard_part}
 use Rattle.ht_many.specs.CaptureLanes.{AreNew, AreOpen, IsNew, Lane, LaneLeads, LanesLead, lane_answer, lane_due, lane_finished, lane_over, lane_rests}
 use Rattle.ht_many.specs.CaptureLanes.{lane_seen, reader_at, reader_means}
 use Rattle.ht_many.specs.KeptFrames.{lines_left}
 use Rattle.ht_many.specs.Receiving.{ReceivesEach}
-
--- what an answer says of the octets of a capture
-told_heard : (a b c d : Device ℕ) (answer : Result Ended RunFault) → MatchResult answer (TellsTo frame_lines_of a b c d) (StopsBy frame_lines_of a b c d)
-    → Heard a b c d answer
-told_heard a b c d (Ok ended) l =
-    record { taken = l.taken; octets = l.octets; whole = l.whole; says = l.says.frames_are; put = l.put }
-told_heard a b c d (Err (Format fault)) l = l
-told_heard a b c d (Err Read) l = l
-told_heard a b c d (Err Write) l = l
-told_heard a b c d (Err NoMemory) l = l
 
 -- what follows from what is said of a value
 pub then_ok : {A E : Type 0} (P Q : A → Type 0) (result : Result A E) → ((x : A) → P x → Q x) → IfOk result P → IfOk result Q
@@ -90,12 +79,11 @@ module _ {S K : Type 0} (source : S → Device ℕ) (sink : K → Device ℕ) wh
         → Heard (source a.source) (source b.source) (sink a.sink) (sink b.sink) answer
     came_heard answer came =
         let none : a.lane.consumer.under_way.left ≤ 0 = let e = new.none in omega (arith, e) in
-        told_heard (source a.source) (source b.source) (sink a.sink) (sink b.sink) answer
-        (lines_told answer (source a.source) (source b.source) (sink a.sink) (sink b.sink)
+        lines_told answer (source a.source) (source b.source) (sink a.sink) (sink b.sink)
         (gathered_told result_line a.lane.consumer.whole a.lane.consumer.under_way answer (source a.source) (source b.source) (sink a.sink) (sink b.sink)
         new.fresh none
         (comes_to reader_means reader_at new.reader new.head (source a.source) (source b.source) before after answer
-        new.means new.at came)))
+        new.means new.at came))
 
     side_heard : lane_over b.lane ≡ true → (lane_rests b.lane ≡ false → lane_due b.lane ≡ []) → (lane_rests b.lane ≡ false → lane_finished b.lane)
         → Heard (source a.source) (source b.source) (sink a.sink) (sink b.sink) (lane_answer b.lane)

@@ -11,11 +11,11 @@ use Rattle.ht_feed.specs.declared.ended.Ended.{Ended}
 use Rattle.ht_feed.specs.Others.{OthersStay}
 use Rattle.ht_feed.proofs.Others.{each_of, other_number, same_number}
 use Rattle.ht_many.specs.declared.many_end.ManyEnd.{ManyEnd}
-use Rattle.ht_many.specs.declared.many_end.ManyEnd.TheVariants.{Read, Write}
-use Rattle.ht_many.specs.Alone.{Alone, FinishesCapture, PutsPieces}
+use Rattle.ht_many.specs.declared.many_end.ManyEnd.TheVariants.{Done, Refused, Read, Write}
+use Rattle.ht_many.specs.Alone.{Alone, FinishesCapture, PutsPieces, answer_of}
 use Rattle.ht_many.specs.Several.{AreLater, Devices, EachEnds, EachHeard, EachInPart, answer_at, devices, end_at, sink_at, source_at}
 use Rattle.ht_many.specs.LastLines.{EachFinishes, EachMayFinish, FinishesAt, KeepSinks}
-use Rattle.ht_many.proofs.Ending.{ended_part, heard_ends, heard_part}
+use Rattle.ht_many.proofs.Ended.{ended_part, heard_ends, heard_part}
 
 -- how sinks are seen, and what receiving answered of each capture
 module _ {K : Type 0} (sink : K → Device ℕ) (answers : List (Result Ended RunFault)) where
@@ -147,7 +147,13 @@ module _ {K : Type 0} (sink : K → Device ℕ) (answers : List (Result Ended Ru
 failed_ends : (answer : Result Ended RunFault) (c d : Device ℕ) (end : ManyEnd) → answer ≡ Err RunWrite → FinishesCapture answer c d end → end ≡ Write
 failed_ends answer c d end is f =
     let so : FinishesCapture (Err RunWrite) c d end = subst (λ (x : Result Ended RunFault). FinishesCapture x c d end) is f in
-    so.0
+    written end so.0
+  where
+    written : (end : ManyEnd) → answer_of end ≡ Err RunWrite → end ≡ Write
+    written (Done frames) so = absurd (cc)
+    written (Refused fault) so = absurd (cc)
+    written Read so = absurd (cc)
+    written Write so = refl
 
 -- captures were received, between the first two moments, and got their last lines between the last two
 module _ {S K : Type 0} (source : S → Device ℕ) (sink : K → Device ℕ) (a b : Devices S K) (after : List K) (answers : List (Result Ended RunFault))
@@ -167,7 +173,7 @@ module _ {S K : Type 0} (source : S → Device ℕ) (sink : K → Device ℕ) (a
       → Alone (source_at source a k s) (source_at source b k s) (sink_at sink a k t) (sink (get_or after k t)) end
   ends-alone k end few f s t =
       heard_ends (source_at source a k s) (source_at source b k s) (sink_at sink a k t) (answer_at answers k) (sink_at sink b k t)
-      (sink (get_or after k t)) end (heard.each k few s t) (later.puts k t) (f t)
+      (sink (get_or after k t)) (answer_of end) (heard.each k few s t) (later.puts k t) (f t)
 
   answered : (k : ℕ) → k < length a.sources → k < length answers
   answered k few = subst (λ (n : ℕ). k < n) (sym heard.as_many) few
@@ -206,7 +212,7 @@ module _ {S K : Type 0} (source : S → Device ℕ) (sink : K → Device ℕ) (a
   part k s t few (inl (end, f)) =
       ended_part (source_at source a k s) (source_at source b k s) (sink_at sink a k t) (sink (get_or after k t)) end
       (heard_ends (source_at source a k s) (source_at source b k s) (sink_at sink a k t) (answer_at answers k) (sink_at sink b k t)
-      (sink (get_or after k t)) end (heard.each k few s t) (later.puts k t) f)
+      (sink (get_or after k t)) (answer_of end) (heard.each k few s t) (later.puts k t) f)
   part k s t few (inr same) =
       subst (λ (x : K). PutsPieces (source_at source a k s) (source_at source b k s) (sink_at sink a k t) (sink x)) (sym same)
       (heard_part (source_at source a k s) (source_at source b k s) (sink_at sink a k t) (answer_at answers k) (sink_at sink b k t) (heard.each k few s t))

@@ -1,7 +1,7 @@
 mod Worked
 pub mod CaptureEnds
 pub mod Converting
-pub mod Ending
+pub mod Ended
 pub mod LastLines
 pub mod Opened
 pub mod Parts

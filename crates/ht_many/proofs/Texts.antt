@@ -12,7 +12,7 @@ use Rattle.ht_many.specs.declared.many_end.ManyEnd.TheVariants.{Read}
 use Rattle.ht_many.specs.Alone.{Alone, HasText}
 use Rattle.ht_many.specs.Several.{AreLater, EachEnds, devices}
 use Rattle.ht_many.specs.Bundles.{texts_from}
-use Rattle.ht_many.proofs.Ending.{ended_text}
+use Rattle.ht_many.proofs.Ended.{ended_text}
 
 -- a source of these octets that never fails
 abbrev pub sure : List ℕ → Device ℕ

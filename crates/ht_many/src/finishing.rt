@@ -1,17 +1,19 @@
 //! The last lines of several captures.
 ghost use Rattle.std.specs.Prelude.{◌≡◌, ◌<◌, length, slice_index_or};
 ghost use Rattle.ht_feed.specs.Others.{OthersStay};
-ghost use Rattle.ht_many.specs.Alone.{EndsCapture, FinishesCapture};
+ghost use Rattle.ht_many.specs.Alone.{EndsCapture};
 ghost use Rattle.ht_many.specs.LastLines.{FinishesEach};
 
-use crate::last_line::finish_one;
 use crate::many_end::ManyEnd;
 use ht_feed::Ended;
 use ht_io::Sink;
+use ht_receive::put_last;
 use ht_runs::RunFault;
 use std::alloc::{AllocError, Global};
 
-// Puts the last line of the capture with this number; the sinks of the others stay as they are.
+// Puts the last line behind the lines of the capture with this number, whose receiving answered this, and tells how it ended: with
+// `Write` where a sink failed, this time or before. The only error is lack of memory, and then nothing was put. The sinks of the
+// others stay as they are.
 fn finish_at<K: Sink>(
     alloc: Global,
     answer: Result<Ended, RunFault>,
@@ -19,10 +21,16 @@ fn finish_at<K: Sink>(
     at: usize,
 ) -> Result<ManyEnd, AllocError>
     requires sink { at < length sinks.old }
-    ensures ends { (t : K) → EndsCapture K.shown (FinishesCapture answer) (slice_index_or sinks.old at t) (slice_index_or sinks.new at t) result }
+    ensures ends { (t : K) → EndsCapture K.shown answer (slice_index_or sinks.old at t) (slice_index_or sinks.new at t) result }
     ensures others { OthersStay sinks.old sinks.new at }
 {
-    finish_one(alloc, answer, &mut sinks[at])
+    match put_last(alloc, answer, &mut sinks[at]) {
+        Ok(frames) => Ok(ManyEnd::Done(frames)),
+        Err(RunFault::Format(fault)) => Ok(ManyEnd::Refused(fault)),
+        Err(RunFault::Read) => Ok(ManyEnd::Read),
+        Err(RunFault::Write) => Ok(ManyEnd::Write),
+        Err(RunFault::NoMemory) => Err(AllocError),
+    }
 }
 
 /// Puts the last line of each of several captures behind its other lines, where the receiving of each answered this,

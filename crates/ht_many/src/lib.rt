@@ -36,7 +36,6 @@ mod finishing;
 mod frame_lines;
 mod gathered_lines;
 mod keeping_lines;
-mod last_line;
 pub mod laws;
 mod many_end;
 

@@ -5,8 +5,9 @@ use Rattle.ht_fields.specs.Grammar.{Grammar}
 use Rattle.ht_fields.specs.Meanings.{Meaning, meaning}
 use Rattle.ht_text.specs.Lines.{end_text}
 use Rattle.ht_runs.specs.Formats.{IsLined}
+use Rattle.ht_runs.specs.Streamed.{line_of_fault}
 use Rattle.ht_runs.specs.declared.faults.RunFault.{RunFault}
-use Rattle.ht_runs.specs.declared.faults.RunFault.TheVariants.{Write, NoMemory}
+use Rattle.ht_runs.specs.declared.faults.RunFault.TheVariants.{Format, Read, Write, NoMemory}
 use Rattle.ht_feed.specs.declared.ended.Ended.{Ended}
 use Rattle.ht_feed.specs.Items.{Headed, Item, frames_of, headed}
 
@@ -18,9 +19,18 @@ PutsText whole failed lacking text sink sink' answer =
     ⊎ ((answer ≡ failed) × GrowsByPart sink sink' text × Rose sink sink')
     ⊎ ((answer ≡ lacking) × (sink' ≡ sink))
 
+-- The last line was put behind the lines of an input whose run ended so: `end N frames` of a whole one, or the line of its first
+-- fault. Where a device failed or memory ran out nothing was.
+abbrev pub PutsLast : Result Ended RunFault → Device ℕ → Device ℕ → Result ℕ RunFault → Type 0
+PutsLast (Ok ended) sink sink' result = PutsText (Ok ended.frames) (Err Write) (Err NoMemory) (end_text ended.frames) sink sink' result
+PutsLast (Err (Format fault)) sink sink' result = PutsText (Err (Format fault)) (Err Write) (Err NoMemory) (line_of_fault fault) sink sink' result
+PutsLast (Err Read) sink sink' result = (result ≡ Err Read) × (sink' ≡ sink)
+PutsLast (Err Write) sink sink' result = (result ≡ Err Write) × (sink' ≡ sink)
+PutsLast (Err NoMemory) sink sink' result = (result ≡ Err NoMemory) × (sink' ≡ sink)
+
 -- the end line was put behind the lines of a whole input; where these are not the lines of a whole one nothing was
 abbrev pub PutsEnd : Result Ended RunFault → Device ℕ → Device ℕ → Result ℕ RunFault → Type 0
-PutsEnd (Ok ended) sink sink' result = PutsText (Ok ended.frames) (Err Write) (Err NoMemory) (end_text ended.frames) sink sink' result
+PutsEnd (Ok ended) sink sink' result = PutsLast (Ok ended) sink sink' result
 PutsEnd (Err fault) sink sink' result = (result ≡ Err fault) × (sink' ≡ sink)
 
 -- what the end line behind lines comes to, by how their run ended: the sink before and after, and the answer

@@ -21,15 +21,15 @@
 //! ```
 //!
 //! Any run over blocks that puts lines while it reads ends so, lists of jobs too. A run of `tell_alone` of crate `ht_feed`, or
-//! of a drive, answers how it ended, and its consumer put the lines of what is whole. [`put_end`] puts the last line if the
-//! input was whole, and answers the number of its frames; if the input has a fault nothing more is put, and the caller puts
-//! the line of the fault. What both calls promise together is said once for every format, every reader of blocks and every
-//! consumer: it is `Streamed` of crate `ht_runs` of the format's filter (`IsTold` of `specs/Endings.antt`, and `ends` of
-//! `proofs/Endings.antt`).
+//! of a drive, answers how it ended, and its consumer put the lines of what is whole. [`put_last`] puts the last line then,
+//! that of the end or that of the first fault. [`put_end`] puts it if the input was whole, and answers the number of its
+//! frames; if the input has a fault nothing more is put, and the caller puts the line of the fault. What a run and [`put_end`]
+//! promise together is said once for every format, every reader of blocks and every consumer: it is `Streamed` of crate
+//! `ht_runs` of the format's filter (`IsTold` of `specs/Endings.antt`, and `ends` of `proofs/Endings.antt`).
 #![tactic(auto)]
 
 mod putting;
 mod receiving;
 
-pub use putting::put_end;
+pub use putting::{put_end, put_last};
 pub use receiving::{receive, receive_alone};

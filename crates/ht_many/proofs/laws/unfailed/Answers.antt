@@ -1,4 +1,4 @@
-use Rattle.ht_many.proofs.Ending.{unfailed_ends, unfailed_same, unfailed_text}
+use Rattle.ht_many.proofs.Ended.{unfailed_ends, unfailed_same, unfailed_text}
 use Rattle.ht_many.proofs.laws.unfailed.Goals as goal
 
 pub returns-clause-ends : goal.returns-clause-ends

@@ -4,7 +4,6 @@ use Rattle.std.proofs.Common.{refl, ap, ◌∙◌, sym, subst, inl, inr, map}
 use Rattle.std.specs.List.{flat_map}
 use Rattle.std.proofs.lemmas.Option.{IfSome_then}
 use Rattle.ht_io.specs.Devices.{Device, Takes, TakesAll, Grows, GrowsByPart, Rose, IsLater}
-use Rattle.ht_io.specs.Kinds.{name_of}
 use Rattle.ht_io.specs.Pieces.{KnownGrown}
 use Rattle.ht_io.specs.declared.faults.FormatFault.{FormatFault}
 use Rattle.ht_io.proofs.Calls.{failed-later, grows-append, grows_by_part-front, grows_by_part-append}
@@ -14,17 +13,19 @@ use Rattle.ht_capture.specs.Captures.{capture_of}
 use Rattle.ht_capture.specs.Fields.{captures}
 use Rattle.ht_capture_laws.specs.Items.{whole_frames}
 use Rattle.ht_results.specs.Results.{frame_result, results_of}
-use Rattle.ht_results.specs.Texts.{HasFrames, frame_lines_of, frames_of, last_line, last_of, result_line, rx_text}
+use Rattle.ht_results.specs.Texts.{frame_lines_of, frames_of, last_line, last_of, result_line, rx_text}
 use Rattle.ht_results.proofs.Folded.{more_lines}
-use Rattle.ht_runs.specs.Outcomes.{TellsBroken, TellsPieces, TellsRefused, TellsWhole}
+use Rattle.ht_runs.specs.Outcomes.{TellsBroken, TellsPieces}
+use Rattle.ht_runs.specs.Streamed.{line_of_fault}
 use Rattle.ht_runs.proofs.Known.{by_part, known, known_all, takes_of}
 use Rattle.ht_runs.specs.declared.faults.RunFault.{RunFault}
 use Rattle.ht_runs.specs.declared.faults.RunFault.TheVariants.{Format, Read as RunRead, Write as RunWrite, NoMemory as RunMemory}
 use Rattle.ht_feed.specs.declared.ended.Ended.{Ended}
-use Rattle.ht_text.specs.Lines.{end_text, refused_text}
+use Rattle.ht_text.specs.Lines.{end_text}
+use Rattle.ht_receive.specs.Endings.{PutsLast, PutsText}
 use Rattle.ht_many.specs.declared.many_end.ManyEnd.{ManyEnd}
 use Rattle.ht_many.specs.declared.many_end.ManyEnd.TheVariants.{Done, Refused, Read, Write}
-use Rattle.ht_many.specs.Alone.{Alone, FinishesCapture, HasText, Heard, PutsLast, PutsPieces}
+use Rattle.ht_many.specs.Alone.{Alone, HasText, Heard, PutsPieces, Says}
 
 -- the lines of octets with this fault, or with none, and then the last line, are their text
 with_last : (octets : List ℕ) (fault : Option FormatFault) → (capture_of octets).fault ≡ fault
@@ -96,76 +97,44 @@ module _ (a b c : Device ℕ) where
   ended_part d Read l = broken_part d l.0
   ended_part d Write l = l.0
 
-  -- the lines of a whole capture or of one with a fault, and the sink behind them
-  module _ (mid : Device ℕ) where
-    last_is : (frames : ℕ) (l : TellsWhole captures frame_lines_of a b c mid (HasFrames frames))
-        → frame_lines_of l.taken ++ end_text frames ≡ rx_text l.taken
-    last_is frames l =
-        ap (λ n. frame_lines_of l.taken ++ end_text n) l.says ∙ with_last l.taken None l.whole
+  -- lines and behind them the last line, of octets whose text they are, of which an answer and a part then say this
+  by_line : (good : Result ℕ RunFault) (taken line : List ℕ) (mid d : Device ℕ) (result : Result ℕ RunFault) → IsLater c mid
+      → Grows c mid (frame_lines_of taken) → frame_lines_of taken ++ line ≡ rx_text taken → (Grows c d (rx_text taken) → Says a b c d good)
+      → (GrowsByPart c d (rx_text taken) → PutsPieces a b c d) → PutsText good (Err RunWrite) (Err RunMemory) line mid d result → Says a b c d result
+  by_line good taken line mid d result later put text says part (inl (is, last)) =
+      subst (Says a b c d) (sym is) (says (subst (Grows c d) text (grows-append c mid d (frame_lines_of taken) line put last)))
+  by_line good taken line mid d result later put text says part (inr (inl (is, last, rose))) =
+      subst (Says a b c d) (sym is) (
+        part (subst (GrowsByPart c d) text (grows_by_part-append c mid d (frame_lines_of taken) line put last)),
+        failed-later c mid d later rose,
+      )
+  by_line good taken line mid d result later put text says part (inr (inr (is, same))) =
+      subst (Says a b c d) (sym is)
+      (part (text_part d taken (by_part c d (frame_lines_of taken) (subst (λ (k : Device ℕ). Grows c k (frame_lines_of taken)) (sym same) put))))
 
-    refused_is : (fault : FormatFault) (l : TellsRefused captures frame_lines_of a b c mid fault)
-        → frame_lines_of l.taken ++ refused_text (name_of fault.kind) fault.offset ≡ rx_text l.taken
-    refused_is fault l = with_last l.taken (Some fault) l.refused
-
-    pub done_with : (d : Device ℕ) (frames : ℕ) (end : ManyEnd) → IsLater c mid → TellsWhole captures frame_lines_of a b c mid (HasFrames frames)
-        → PutsLast (end_text frames) (Done frames) mid d end → Alone a b c d end
-    done_with d frames end later l (inl (is, last)) =
-        subst (λ (e : ManyEnd). Alone a b c d e) (sym is) (record {
-          taken = l.taken;
-          octets = l.octets;
-          whole = l.whole;
-          says = l.says;
-          put = subst (λ (z : List ℕ). Grows c d z) (last_is frames l) (grows-append c mid d (frame_lines_of l.taken) (end_text frames) l.put last);
-        })
-    done_with d frames end later l (inr (is, last, rose)) =
-        subst (λ (e : ManyEnd). Alone a b c d e) (sym is) (
-          whole_part d l.taken l.octets (subst (λ (z : List ℕ). GrowsByPart c d z) (last_is frames l)
-              (grows_by_part-append c mid d (frame_lines_of l.taken) (end_text frames) l.put last)),
-          failed-later c mid d later rose,
-        )
-
-    pub refused_with : (d : Device ℕ) (fault : FormatFault) (end : ManyEnd) → IsLater c mid → TellsRefused captures frame_lines_of a b c mid fault
-        → PutsLast (refused_text (name_of fault.kind) fault.offset) (Refused fault) mid d end → Alone a b c d end
-    refused_with d fault end later l (inl (is, last)) =
-        let line = refused_text (name_of fault.kind) fault.offset in
-        subst (λ (e : ManyEnd). Alone a b c d e) (sym is) (record {
-          taken = l.taken;
-          octets = l.octets;
-          refused = l.refused;
-          ends = l.ends;
-          comes = l.comes;
-          put = subst (λ (z : List ℕ). Grows c d z) (refused_is fault l) (grows-append c mid d (frame_lines_of l.taken) line l.put last);
-        })
-    refused_with d fault end later l (inr (is, last, rose)) =
-        let line = refused_text (name_of fault.kind) fault.offset in
-        subst (λ (e : ManyEnd). Alone a b c d e) (sym is) (
-          refused_part d l.taken l.octets l.comes (subst (λ (z : List ℕ). GrowsByPart c d z) (refused_is fault l)
-              (grows_by_part-append c mid d (frame_lines_of l.taken) line l.put last)),
-          failed-later c mid d later rose,
-        )
-
-  -- without memory for the last line
-  pub whole_lacks : (d : Device ℕ) (Says : List ℕ → Type 0) → TellsWhole captures frame_lines_of a b c d Says → PutsPieces a b c d
-  whole_lacks d Says l = whole_part d l.taken l.octets (text_part d l.taken (by_part c d (frame_lines_of l.taken) l.put))
-
-  pub refused_lacks : (d : Device ℕ) (fault : FormatFault) → TellsRefused captures frame_lines_of a b c d fault → PutsPieces a b c d
-  refused_lacks d fault l = refused_part d l.taken l.octets l.comes (text_part d l.taken (by_part c d (frame_lines_of l.taken) l.put))
-
-  -- how a capture ended whose receiving answered this
-  pub heard_ends : (answer : Result Ended RunFault) (mid d : Device ℕ) (end : ManyEnd) → Heard a b c mid answer → IsLater c mid
-      → FinishesCapture answer mid d end → Alone a b c d end
-  heard_ends (Ok ended) mid d end l later puts = done_with mid d ended.frames end later l puts
-  heard_ends (Err (Format fault)) mid d end l later puts = refused_with mid d fault end later l puts
-  heard_ends (Err RunRead) mid d end l later (is, same) =
-      subst (λ (e : ManyEnd). Alone a b c d e) (sym is) (subst (λ (k : Device ℕ). TellsBroken captures frame_lines_of a b c k) (sym same) l.0, l.1)
-  heard_ends (Err RunWrite) mid d end l later (is, same) =
-      subst (λ (e : ManyEnd). Alone a b c d e) (sym is) (subst (λ (k : Device ℕ). PutsPieces a b c k × Rose c k) (sym same) (pieces_part mid l.0, l.1))
-  heard_ends (Err RunMemory) mid d end l later puts = absurd puts
+  -- what is said of a capture with its last line, whose receiving answered this
+  pub heard_ends : (answer : Result Ended RunFault) (mid d : Device ℕ) (result : Result ℕ RunFault) → Heard a b c mid answer → IsLater c mid
+      → PutsLast answer mid d result → Says a b c d result
+  heard_ends (Ok ended) mid d result l later puts =
+      by_line (Ok ended.frames) l.taken (end_text ended.frames) mid d result later l.put
+      (ap (λ n. frame_lines_of l.taken ++ end_text n) l.says.frames_are ∙ with_last l.taken None l.whole)
+      (λ put. record { taken = l.taken; octets = l.octets; whole = l.whole; says = l.says.frames_are; put = put })
+      (whole_part d l.taken l.octets) puts
+  heard_ends (Err (Format fault)) mid d result l later puts =
+      by_line (Err (Format fault)) l.taken (line_of_fault fault) mid d result later l.put (with_last l.taken (Some fault) l.refused)
+      (λ put. record { taken = l.taken; octets = l.octets; refused = l.refused; ends = l.ends; comes = l.comes; put = put })
+      (refused_part d l.taken l.octets l.comes) puts
+  heard_ends (Err RunRead) mid d result l later (is, same) =
+      subst (Says a b c d) (sym is) (subst (λ (k : Device ℕ). TellsBroken captures frame_lines_of a b c k) (sym same) l.0, l.1)
+  heard_ends (Err RunWrite) mid d result l later (is, same) =
+      subst (Says a b c d) (sym is) (subst (λ (k : Device ℕ). PutsPieces a b c k × Rose c k) (sym same) (pieces_part mid l.0, l.1))
+  heard_ends (Err RunMemory) mid d result l later (is, same) =
+      subst (Says a b c d) (sym is) (subst (PutsPieces a b c) (sym same) (pieces_part mid l))
 
   -- without its last line a part of its text was put
   pub heard_part : (answer : Result Ended RunFault) (d : Device ℕ) → Heard a b c d answer → PutsPieces a b c d
-  heard_part (Ok ended) d l = whole_lacks d (HasFrames ended.frames) l
-  heard_part (Err (Format fault)) d l = refused_lacks d fault l
+  heard_part (Ok ended) d l = whole_part d l.taken l.octets (text_part d l.taken (by_part c d (frame_lines_of l.taken) l.put))
+  heard_part (Err (Format fault)) d l = refused_part d l.taken l.octets l.comes (text_part d l.taken (by_part c d (frame_lines_of l.taken) l.put))
   heard_part (Err RunRead) d l = broken_part d l.0
   heard_part (Err RunWrite) d l = pieces_part d l.0
   heard_part (Err RunMemory) d l = pieces_part d l
