@@ -4,8 +4,12 @@
  *                                                              256 of them, 29 times in a call (65 symbols of 114 subcarriers);
  *                                                              prints the same checksum
  *   library silent STREAMS MODULATION NOISE DIAGONALS COUNT    the same without the checksum, which is 0
+ *   library labels STREAMS MODULATION NOISE COUNT    the jobs of a line `octets` with these words, COUNT * 64 times all 256 of them, 64
+ *                                                    symbols of 112, 112 and 32 subcarriers in a call; only labels and sums are wanted,
+ *                                                    and the same checksum is printed
  *   library jobs FILE STREAMS MODULATION NOISE DIAGONALS       writes the jobs' channels and received samples
- *   library CALL < INPUT           what the call writes: CALL is detect_text, rx_text, soft_text, lrx_text, certify_file or check_text
+ *   library CALL < INPUT           what the call writes: CALL is detect_text, rx_text, soft_text, lrx_text or check_text, whose array has the
+ *                                  octets that the call with _size says, so that no call is made twice
  *   library times CALL < INPUT     the least processor seconds of five calls one after the other, with the same arrays */
 #include <mizgaure.h>
 #include <stdio.h>
@@ -13,11 +17,13 @@
 #include <string.h>
 #include <time.h>
 
-enum { JOBS = 256, ROUNDS = 29, SAMPLES = JOBS * ROUNDS };
+enum { JOBS = 256, ROUNDS = 29, SAMPLES = JOBS * ROUNDS, CARRIERS = 112, SYMBOLS = 64 };
 
 static mizgaure_channel channels[JOBS];
-static mizgaure_received received[SAMPLES];
+static mizgaure_received received[SAMPLES], symbols[SYMBOLS * JOBS]; /* symbols: those of the first subcarriers, of the next ones .. */
 static mizgaure_hit hits[SAMPLES];
+static uint8_t labels[4 * SYMBOLS * JOBS];
+static mizgaure_distance sums[SYMBOLS * ((JOBS + CARRIERS - 1) / CARRIERS)];
 static uint64_t state = 1;
 
 static uint64_t draw(void) {
@@ -57,6 +63,10 @@ static void make(int streams, int i_levels, int q_levels, int noise, bool large)
         }
     }
     for (int round = 1; round < ROUNDS; round++) memcpy(received + round * JOBS, received, JOBS * sizeof *received);
+    for (int from = 0; from < JOBS; from += CARRIERS) {
+        int carriers = from + CARRIERS < JOBS ? CARRIERS : JOBS - from;
+        for (int k = 0; k < SYMBOLS; k++) memcpy(symbols + SYMBOLS * from + k * carriers, received + from, carriers * sizeof *received);
+    }
 }
 
 static uint64_t folded(uint64_t sum, uint64_t number) { return (sum ^ number) * 0x100000001b3u; }
@@ -68,6 +78,27 @@ static uint64_t with_hits(uint64_t sum, int streams) {
             sum = folded(folded(sum, (uint8_t)hits[k].points[stream].i), (uint8_t)hits[k].points[stream].q);
     }
     return sum;
+}
+
+/* Labels and sums of all jobs SYMBOLS times; the checksum with those of the last time once no more come. */
+static bool labelled(int streams, uint8_t mcs, bool last, uint64_t *sum) {
+    for (int from = 0, call = 0; from < JOBS; from += CARRIERS, call++) {
+        int carriers = from + CARRIERS < JOBS ? CARRIERS : JOBS - from, n = SYMBOLS * carriers;
+        if (mizgaure_detect_symbols(0, mcs, channels + from, carriers, symbols + SYMBOLS * from, n, MIZGAURE_EMPTY, 0,
+                                    labels + 4 * SYMBOLS * from, n * streams, sums + SYMBOLS * call, SYMBOLS)) return false;
+        for (int k = 0; k < SYMBOLS - last; k++) *sum += sums[SYMBOLS * call + k].low;
+    }
+    for (int from = 0, call = 0; last && from < JOBS; from += CARRIERS, call++) {
+        int carriers = from + CARRIERS < JOBS ? CARRIERS : JOBS - from;
+        const uint8_t *of = labels + 4 * SYMBOLS * from + (SYMBOLS - 1) * carriers * streams;
+        *sum += sums[SYMBOLS * call + SYMBOLS - 1].low;
+        for (int k = 0; k < carriers; k++, of += streams) {
+            uint64_t together = 0;
+            for (int stream = streams; stream-- > 0;) together = together << 8 | of[stream];
+            *sum = folded(*sum, together);
+        }
+    }
+    return true;
 }
 
 static bool jobs_of(char **words, int *streams, uint8_t *mcs) {
@@ -83,21 +114,22 @@ static bool jobs_of(char **words, int *streams, uint8_t *mcs) {
 }
 
 typedef uint32_t text(const uint8_t *, size_t, uint8_t *, size_t, uint64_t *, mizgaure_refusal *);
+typedef uint64_t text_size(const uint8_t *, size_t);
 
 static double now(void) { return (double)clock() / CLOCKS_PER_SEC; }
 
-static int write_text(text *call, bool timed) {
+static int write_text(text *call, text_size *suffices, bool timed) {
     size_t n = 0, room = 1 << 16, got;
     uint8_t *input = malloc(room), *output;
     while (input && (got = fread(input + n, 1, room - n, stdin)) > 0)
         if ((n += got) == room) input = realloc(input, room *= 2);
-    uint64_t size;
+    uint64_t enough = input ? suffices(input, n) : 0, size;
     mizgaure_refusal refusal;
-    output = input ? malloc(8 * n + 4096) : NULL;
+    output = input ? malloc(enough) : NULL;
     double least = 1e9;
     for (int turn = 0; turn < (timed ? 5 : 1); turn++) {
         double start = now(), taken;
-        if (!output || call(input, n, output, 8 * n + 4096, &size, &refusal)) return 1;
+        if (!output || call(input, n, output, enough, &size, &refusal)) return 1;
         taken = now() - start;
         least = taken < least ? taken : least;
     }
@@ -105,23 +137,31 @@ static int write_text(text *call, bool timed) {
 }
 
 int main(int argc, char **words) {
-    static const struct { const char *name; text *call; } texts[] = {
-        {"detect_text", mizgaure_detect}, {"rx_text", mizgaure_rx}, {"soft_text", mizgaure_soft},
-        {"lrx_text", mizgaure_lrx}, {"certify_file", mizgaure_certify}, {"check_text", mizgaure_check}};
+    static const struct { const char *name; text *call; text_size *size; } texts[] = {
+        {"detect_text", mizgaure_detect, mizgaure_detect_size}, {"rx_text", mizgaure_rx, mizgaure_rx_size},
+        {"soft_text", mizgaure_soft, mizgaure_soft_size}, {"lrx_text", mizgaure_lrx, mizgaure_lrx_size},
+        {"check_text", mizgaure_check, mizgaure_check_size}};
     int streams;
     uint8_t mcs;
     bool timed = argc == 3 && !strcmp(words[1], "times");
     for (size_t k = 0; (argc == 2 || timed) && k < sizeof texts / sizeof *texts; k++)
-        if (!strcmp(words[argc - 1], texts[k].name)) return write_text(texts[k].call, timed);
+        if (!strcmp(words[argc - 1], texts[k].name)) return write_text(texts[k].call, texts[k].size, timed);
+    uint64_t sum = 0;
+    if (argc == 6 && !strcmp(words[1], "labels")) {
+        char *of[4] = {words[2], words[3], words[4], "large"};
+        if (!jobs_of(of, &streams, &mcs)) return 2;
+        for (int left = atoi(words[5]); left-- > 0;)
+            if (!labelled(streams, mcs, left == 0, &sum)) return 1;
+        return printf("%llu\n", (unsigned long long)sum) < 0;
+    }
     if (argc != 7) return 2;
     if (!strcmp(words[1], "jobs")) {
         FILE *file = jobs_of(words + 3, &streams, &mcs) ? fopen(words[2], "wb") : NULL;
         return !file || fwrite(channels, sizeof channels, 1, file) != 1 || fwrite(received, sizeof received, 1, file) != 1 || fclose(file);
     }
     if (!jobs_of(words + 2, &streams, &mcs)) return 2;
-    uint64_t sum = 0;
     for (int turn = 0; turn < atoi(words[6]); turn++) {
-        if (mizgaure_detect_symbols(0, mcs, channels, JOBS, received, SAMPLES, hits, SAMPLES)) return 1;
+        if (mizgaure_detect_symbols(0, mcs, channels, JOBS, received, SAMPLES, hits, SAMPLES, MIZGAURE_EMPTY, 0, MIZGAURE_EMPTY, 0)) return 1;
         if (!strcmp(words[1], "detect")) sum = with_hits(sum, streams);
     }
     printf("%llu\n", (unsigned long long)sum);

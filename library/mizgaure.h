@@ -10,7 +10,8 @@
  * threads may call at a time, each with its own outputs.
  *
  * What the caller must keep, since nothing checks it:
- *   - an array has as many elements as the length behind it says, is aligned for its type, and is not null even where it is empty;
+ *   - an array has as many elements as the length behind it says, is aligned for its type, and is not null even where it is empty:
+ *     MIZGAURE_EMPTY is an array of no elements;
  *   - what a call writes overlaps no other argument of the call;
  *   - a bool is 0 or 1;
  *   - malloc, realloc and free are those of one allocator, whose blocks are aligned to 16 octets;
@@ -38,7 +39,11 @@ extern "C" {
 #endif
 
 /* The version of these calls, which mizgaure_version() answers too. Until it is 1000 a call may change from version to version. */
-#define MIZGAURE_VERSION 4
+#define MIZGAURE_VERSION 5
+
+/* An array of no elements, of any type: what is passed, with the length 0, for an output that isn't wanted. In C++ a cast gives it its
+ * type, and the spans of mizgaure.hpp need none. */
+#define MIZGAURE_EMPTY ((void *)16)
 
 enum mizgaure_fault {
     MIZGAURE_DONE = 0,
@@ -90,11 +95,20 @@ typedef struct { mizgaure_point points[4]; uint64_t low, high; } mizgaure_hit;
 uint32_t mizgaure_nearest(uint8_t bandwidth, uint8_t mcs, const mizgaure_channel *channel, const mizgaure_received *received,
                           mizgaure_hit *found);
 
-/* The same for any number of symbols of `channels_n` data subcarriers. Received samples and hits stand symbol by symbol, and
- * sample k meets channel k % channels_n. NO_RATE; BAD_LENGTH unless channels_n > 0, hits_n == received_n and received_n is a
- * multiple of channels_n. */
+/* A sum of squared distances, 16 octets: low + 2^64 * high. */
+typedef struct { uint64_t low, high; } mizgaure_distance;
+
+/* The nearest vectors, as above, of any number of symbols of `channels_n` data subcarriers. Received samples stand symbol by symbol, and
+ * sample k meets channel k % channels_n. Each of the three outputs is whole, or left out as an empty array:
+ *   hits     received_n of them: what was found, sample by sample;
+ *   labels   received_n * N_SS octets in the order symbol, subcarrier, stream (that of mizgaure_decode_frame): the labels of the points
+ *            that were found, of N_BPSCS bits each, those that mizgaure_labels answers for them (clause 20.3.11.9);
+ *   sums     received_n / channels_n of them: for each symbol the sum of the squared distances of its hits.
+ * NO_RATE; BAD_LENGTH unless channels_n > 0, received_n is a multiple of channels_n, and each of hits_n, labels_n and sums_n is 0 or the
+ * number that is said above. */
 uint32_t mizgaure_detect_symbols(uint8_t bandwidth, uint8_t mcs, const mizgaure_channel *channels, size_t channels_n,
-                                 const mizgaure_received *received, size_t received_n, mizgaure_hit *hits, size_t hits_n);
+                                 const mizgaure_received *received, size_t received_n, mizgaure_hit *hits, size_t hits_n,
+                                 uint8_t *labels, size_t labels_n, mizgaure_distance *sums, size_t sums_n);
 
 /* The weights of the label bits of such symbols, in the order symbol, subcarrier, stream, bit (the order of mizgaure_soft_frame): the
  * least squared distance where the bit is 0 less the least one where it is 1, cut to -65535 to 65535; so positive where a 1 is

@@ -27,5 +27,5 @@ class detector(gr.sync_block):
     def work(self, input_items, output_items):
         hits = output_items[0].view(library.HIT)
         samples = input_items[0][: len(hits)].reshape(len(hits), self.carriers, 4, 2)
-        library.detect_symbols(self.rate, self.channels, samples, out=hits)
+        library.detect_symbols(self.rate, self.channels, samples, hits=hits, labels=False, sums=False)
         return len(hits)

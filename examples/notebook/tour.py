@@ -30,16 +30,16 @@ received = np.zeros((*clean.shape[:2], 4, 2), np.int32)
 received[:, :, :2] = np.round(np.stack([clean.real, clean.imag], -1) + 50 * numbers.normal(size=(*clean.shape, 2)))
 
 # %% The nearest vectors, beside those of zero forcing.
-hits = library.detect_symbols(rate, channels, received)
+hits, labels, sums = library.detect_symbols(rate, channels, received)
 found = hits["points"][:, :, :2].astype(int) @ (1, 1j)
 y = received[:, :, :2] @ np.array((1, 1j))
 forced = np.linalg.solve(triangle[None], y[..., None])[..., 0]
 level = lambda part: np.clip(2 * np.floor(part / 2) + 1, -3, 3)  # noqa: E731
 forced = level(forced.real) + 1j * level(forced.imag)
 print(f"points in error: {np.mean(found != sent):.1%}, and {np.mean(forced != sent):.1%} by zero forcing")
+print(f"squared distances of the symbols, added up: {library.distances(sums)}")
 
 # %% The octets, by hard decisions and by the weights of the label bits.
-labels = library.labels(4, np.ascontiguousarray(hits["points"][:, :, :2]))
 weights = library.weigh_symbols(rate, channels, received)
 for name, decode, given in (("hard decisions", library.decode_frame, labels), ("weights", library.soft_frame, weights)):
     answer, cost = decode(rate, given, len(octets))

@@ -82,6 +82,9 @@ static void code(void) {
     static uint8_t long_received[2 * 524303];
     static bool long_found[524303];
     EXPECT(mizgaure_decode(0, long_received, sizeof long_received, long_found, sizeof long_found, &distance) == MIZGAURE_BAD_LENGTH);
+    static int32_t long_weights[2 * 524303];
+    EXPECT(mizgaure_soft_decode(0, long_weights, 2 * 524303, long_found, 524303, &cost) == MIZGAURE_BAD_LENGTH);
+    EXPECT(mizgaure_soft_decode(0, weights, 10, found, 5, &cost) == MIZGAURE_BAD_LENGTH);
     EXPECT(mizgaure_soft_decode(4, weights, 2 * STEPS, found, STEPS, &cost) == MIZGAURE_NO_PATTERN);
     EXPECT(mizgaure_soft_decode(0, weights, 2 * STEPS - 1, found, STEPS, &cost) == MIZGAURE_BAD_LENGTH);
     EXPECT(kept(found, STEPS, 1) && distance == 77 && cost == 77);
@@ -148,6 +151,13 @@ static void legacy(void) {
     EXPECT(mizgaure_legacy_decode_frame(8, labels, 96, &back, 1, &differences) == MIZGAURE_NO_RATE);
     EXPECT(mizgaure_legacy_decode_frame(0, labels, 95, &back, 1, &differences) == MIZGAURE_BAD_LENGTH);
     EXPECT(mizgaure_legacy_decode_frame(0, labels, 0, &back, 0, &differences) == MIZGAURE_BAD_LENGTH);
+    /* 4096 octets would take 1367 symbols. */
+    static uint8_t many_labels[1367 * 48], many_octets[4096];
+    static mizgaure_point many_points[1367 * 52];
+    EXPECT(mizgaure_legacy_decode_frame(0, many_labels, sizeof many_labels, many_octets, 4096, &differences) == MIZGAURE_BAD_LENGTH);
+    EXPECT(mizgaure_legacy_transmit(0, 127, many_octets, 4096, many_points, 1367 * 52) == MIZGAURE_BAD_LENGTH);
+    EXPECT(mizgaure_legacy_transmit(0, 127, many_octets, 0, many_points, 52) == MIZGAURE_BAD_LENGTH);
+    EXPECT(kept(many_octets, sizeof many_octets, 0) && kept(many_points, sizeof many_points, 0));
     memset(labels, 0, 96);
     EXPECT(mizgaure_legacy_decode_frame(0, labels, 96, &back, 1, &differences) == MIZGAURE_NO_SEED && back == 77 && differences == 77);
     memset(places, 0x55, sizeof places), memset(points, 0x55, sizeof points), memset(pilots, 0x55, sizeof pilots);
@@ -241,7 +251,7 @@ static void certificates(void) {
 static void detector(void) {
     mizgaure_channel channel = {{10, 10, 0, 0}, {{1, 2}}};
     mizgaure_received received = {{{7, -11}, {-10, 10}}};
-    mizgaure_hit hit, hits[6];
+    mizgaure_hit hit, hits[4];
     /* y1 = 10 (1 - i) + (1 + 2i)(-1 + i) and y2 = 10 (-1 + i), exactly. */
     EXPECT(mizgaure_nearest(0, 9, &channel, &received, &hit) == MIZGAURE_DONE);
     EXPECT(hit.points[0].i == 1 && hit.points[0].q == -1 && hit.points[1].i == -1 && hit.points[1].q == 1);
@@ -254,11 +264,19 @@ static void detector(void) {
     EXPECT(mizgaure_nearest(1, 31, &none, &far, &hit) == MIZGAURE_DONE && hit.low == 0 && hit.high == 2);
     EXPECT(kept(hit.points, 8, (unsigned char)-7));
 
+    /* Two streams without a channel are 2^64 off, and three such hits with the 9 above 3 * 2^64 + 9. */
     mizgaure_channel channels[2] = {channel, none};
-    mizgaure_received samples[6] = {received, far, far, received, received, far};
-    EXPECT(mizgaure_detect_symbols(0, 9, channels, 2, samples, 6, hits, 6) == MIZGAURE_DONE);
-    for (int k = 0; k < 6; k++)
-        EXPECT(mizgaure_nearest(0, 9, channels + k % 2, samples + k, &hit) == MIZGAURE_DONE && !memcmp(&hit, hits + k, sizeof hit));
+    mizgaure_received samples[4] = {received, far, far, far};
+    uint8_t labels[8];
+    mizgaure_distance sums[2];
+    samples[2] = received, samples[2].samples[0].re++;
+    EXPECT(mizgaure_detect_symbols(0, 9, channels, 2, samples, 4, hits, 4, labels, 8, sums, 2) == MIZGAURE_DONE);
+    EXPECT(hits[0].low == 9 && hits[1].high == 1 && hits[1].low == 0 && hits[2].low == 10 && hits[3].high == 1);
+    EXPECT(sums[0].low == 9 && sums[0].high == 1 && sums[1].low == 10 && sums[1].high == 1);
+    /* In QPSK the first bit is 1 where I is, and the second where Q is (table 18-9). */
+    const uint8_t wanted[8] = {2, 1, 0, 0, 2, 1, 0, 0};
+    EXPECT(!memcmp(labels, wanted, 8));
+    EXPECT(mizgaure_detect_symbols(0, 9, &none, 1, samples, 4, MIZGAURE_EMPTY, 0, MIZGAURE_EMPTY, 0, sums, 1) == MIZGAURE_BAD_LENGTH);
     /* Received exactly: of a bit that is 1 the least distance with 0 is that to the next point, at least 400 off. */
     int32_t weights[8] = {0};
     mizgaure_received exact = {{{7, -11}, {-10, 10}}};
@@ -266,14 +284,83 @@ static void detector(void) {
     EXPECT(weights[0] == 400 && weights[1] == -400 && weights[2] < 0 && weights[3] > 0 && weights[4] == 0);
     memset(weights, 0x55, sizeof weights);
     EXPECT(mizgaure_weigh_symbols(0, 32, &channel, 1, &exact, 1, weights, 4) == MIZGAURE_NO_RATE);
+    EXPECT(mizgaure_weigh_symbols(2, 9, &channel, 1, &exact, 1, weights, 4) == MIZGAURE_NO_RATE);
     EXPECT(mizgaure_weigh_symbols(0, 9, &channel, 1, &exact, 1, weights, 5) == MIZGAURE_BAD_LENGTH);
+    EXPECT(mizgaure_weigh_symbols(0, 9, channels, 2, &exact, 1, weights, 4) == MIZGAURE_BAD_LENGTH);
     EXPECT(mizgaure_weigh_symbols(0, 9, &channel, 0, &exact, 1, weights, 4) == MIZGAURE_BAD_LENGTH && kept(weights, sizeof weights, 0x55));
     memset(hits, 0x55, sizeof hits);
     EXPECT(mizgaure_nearest(2, 0, &channel, &received, hits) == MIZGAURE_NO_RATE && mizgaure_nearest(0, 32, &channel, &received, hits) == MIZGAURE_NO_RATE);
-    EXPECT(mizgaure_detect_symbols(2, 9, channels, 2, samples, 6, hits, 6) == MIZGAURE_NO_RATE);
-    EXPECT(mizgaure_detect_symbols(0, 9, channels, 0, samples, 6, hits, 6) == MIZGAURE_BAD_LENGTH);
-    EXPECT(mizgaure_detect_symbols(0, 9, channels, 2, samples, 5, hits, 5) == MIZGAURE_BAD_LENGTH);
-    EXPECT(mizgaure_detect_symbols(0, 9, channels, 2, samples, 6, hits, 4) == MIZGAURE_BAD_LENGTH && kept(hits, sizeof hits, 0x55));
+    EXPECT(kept(hits, sizeof hits, 0x55));
+}
+
+/* A number of 0 to below - 1. */
+static int drawn(int below) {
+    static uint32_t state = 1;
+    state = state * 1664525u + 1013904223u;
+    return (int)((state >> 8) % (unsigned)below);
+}
+
+/* Each constellation with each number of streams: what detect_symbols writes is what nearest and labels say one by one, and distances
+ * added up, whichever of its outputs are left out. 21 samples are two eights and some more. */
+static void symbols(void) {
+    enum { CARRIERS = 7, SYMBOLS = 3, N = CARRIERS * SYMBOLS };
+    static const uint8_t of_bits[4] = {0, 1, 3, 5}, bits[4] = {1, 2, 4, 6}; /* the lowest MCS index with labels of so many bits */
+    mizgaure_channel channels[CARRIERS];
+    mizgaure_received received[N];
+    mizgaure_hit hits[N], wanted_hits[N];
+    uint8_t labels[4 * N], wanted_labels[4 * N];
+    mizgaure_distance sums[SYMBOLS], wanted_sums[SYMBOLS];
+    for (int kind = 0; kind < 16; kind++) {
+        uint8_t mcs = (uint8_t)(kind / 4 * 8 + of_bits[kind % 4]);
+        size_t streams = mcs / 8 + 1;
+        mizgaure_point points[4 * N];
+        for (int c = 0; c < CARRIERS; c++) {
+            for (int k = 0; k < 4; k++) channels[c].diagonal[k] = (uint16_t)(64 + drawn(192));
+            for (int k = 0; k < 6; k++) channels[c].above[k] = (mizgaure_tap){(int16_t)(drawn(129) - 64), (int16_t)(drawn(129) - 64)};
+            if (c == 5) memset(channels + c, 0, sizeof *channels);
+        }
+        memset(wanted_sums, 0, sizeof wanted_sums);
+        for (int n = 0; n < N; n++) {
+            for (int k = 0; k < 4; k++) received[n].samples[k] = (mizgaure_sample){drawn(3001) - 1500, drawn(3001) - 1500};
+            if (n % 7 == 3) received[n].samples[0].re = INT32_MIN, received[n].samples[streams - 1].im = INT32_MAX;
+            EXPECT(mizgaure_nearest(mcs % 2, mcs, channels + n % CARRIERS, received + n, wanted_hits + n) == MIZGAURE_DONE);
+            memcpy(points + n * streams, wanted_hits[n].points, streams * sizeof *points);
+            mizgaure_distance *sum = wanted_sums + n / CARRIERS;
+            sum->low += wanted_hits[n].low;
+            sum->high += wanted_hits[n].high + (sum->low < wanted_hits[n].low);
+        }
+        EXPECT(mizgaure_labels(bits[kind % 4], points, N * streams, wanted_labels, N * streams) == MIZGAURE_DONE);
+        for (int which = 0; which < 8; which++) {
+            bool with_hits = which & 1, with_labels = which & 2, with_sums = which & 4;
+            memset(hits, 0x55, sizeof hits), memset(labels, 0x55, sizeof labels), memset(sums, 0x55, sizeof sums);
+            EXPECT(mizgaure_detect_symbols(mcs % 2, mcs, channels, CARRIERS, received, N, with_hits ? hits : MIZGAURE_EMPTY, with_hits ? N : 0,
+                                           with_labels ? labels : MIZGAURE_EMPTY, with_labels ? N * streams : 0,
+                                           with_sums ? sums : MIZGAURE_EMPTY, with_sums ? SYMBOLS : 0) == MIZGAURE_DONE);
+            EXPECT(with_hits ? !memcmp(hits, wanted_hits, sizeof hits) : kept(hits, sizeof hits, 0x55));
+            EXPECT(with_labels ? !memcmp(labels, wanted_labels, N * streams) : kept(labels, N * streams, 0x55));
+            EXPECT(kept(labels + N * streams, sizeof labels - N * streams, 0x55));
+            EXPECT(with_sums ? !memcmp(sums, wanted_sums, sizeof sums) : kept(sums, sizeof sums, 0x55));
+        }
+    }
+
+    /* No sample is a symbol of no channel, and no samples are none. */
+    memset(hits, 0x55, sizeof hits), memset(labels, 0x55, sizeof labels), memset(sums, 0x55, sizeof sums);
+    EXPECT(mizgaure_detect_symbols(0, 9, channels, 2, received, 0, hits, 0, labels, 0, sums, 0) == MIZGAURE_DONE);
+    EXPECT(mizgaure_detect_symbols(0, 9, channels, 0, received, 0, hits, 0, labels, 0, sums, 0) == MIZGAURE_BAD_LENGTH);
+    /* Six samples over two channels at two streams: 6 hits, 12 labels and 3 sums, and no other numbers but 0. */
+    static const struct { uint8_t bandwidth, mcs; size_t channels, received, hits, labels, sums; uint32_t fault; } wrong[] = {
+        {2, 9, 2, 6, 6, 12, 3, MIZGAURE_NO_RATE},     {0, 32, 2, 6, 6, 12, 3, MIZGAURE_NO_RATE},    {255, 255, 0, 5, 1, 1, 1, MIZGAURE_NO_RATE},
+        {0, 9, 0, 6, 6, 12, 3, MIZGAURE_BAD_LENGTH},  {0, 9, 2, 5, 5, 10, 2, MIZGAURE_BAD_LENGTH},  {0, 9, 4, 6, 6, 12, 1, MIZGAURE_BAD_LENGTH},
+        {0, 9, 2, 6, 5, 12, 3, MIZGAURE_BAD_LENGTH},  {0, 9, 2, 6, 7, 12, 3, MIZGAURE_BAD_LENGTH},  {0, 9, 2, 6, 6, 11, 3, MIZGAURE_BAD_LENGTH},
+        {0, 9, 2, 6, 6, 6, 3, MIZGAURE_BAD_LENGTH},   {0, 9, 2, 6, 6, 13, 3, MIZGAURE_BAD_LENGTH},  {0, 9, 2, 6, 6, 12, 2, MIZGAURE_BAD_LENGTH},
+        {0, 9, 2, 6, 6, 12, 6, MIZGAURE_BAD_LENGTH},  {0, 9, 2, 6, 0, 24, 0, MIZGAURE_BAD_LENGTH},  {0, 9, 2, 6, 0, 0, 1, MIZGAURE_BAD_LENGTH},
+        {0, 1, 2, 6, 6, 12, 3, MIZGAURE_BAD_LENGTH},  {0, 17, 2, 6, 6, 12, 3, MIZGAURE_BAD_LENGTH}, {0, 9, 2, 0, 1, 0, 0, MIZGAURE_BAD_LENGTH},
+        {0, 9, 2, 0, 0, 1, 0, MIZGAURE_BAD_LENGTH},   {0, 9, 2, 0, 0, 0, 1, MIZGAURE_BAD_LENGTH},
+    };
+    for (size_t k = 0; k < sizeof wrong / sizeof *wrong; k++)
+        EXPECT(mizgaure_detect_symbols(wrong[k].bandwidth, wrong[k].mcs, channels, wrong[k].channels, received, wrong[k].received, hits,
+                                       wrong[k].hits, labels, wrong[k].labels, sums, wrong[k].sums) == wrong[k].fault);
+    EXPECT(kept(hits, sizeof hits, 0x55) && kept(labels, sizeof labels, 0x55) && kept(sums, sizeof sums, 0x55));
 }
 
 /* A frame of two symbols at MCS 1, 20 MHz: sent, its labels read from its points, and decoded. */
@@ -448,6 +535,7 @@ int main(void) {
     parser();
     encoders();
     detector();
+    symbols();
     certificates();
     frames();
     whole_inputs();

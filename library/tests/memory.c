@@ -166,6 +166,7 @@ static void without_memory(void) {
     const mizgaure_channel channel = {{10}, {{0, 0}}};
     const mizgaure_received received = {{{3, -4}}};
     mizgaure_hit hit;
+    mizgaure_distance sum;
     int32_t weight;
     bool bits[127] = {0};
     uint8_t seed, label = 1;
@@ -174,7 +175,7 @@ static void without_memory(void) {
     mizgaure_point point;
     TAKES_NONE(mizgaure_version() == MIZGAURE_VERSION);
     TAKES_NONE(mizgaure_nearest(0, 0, &channel, &received, &hit) == MIZGAURE_DONE);
-    TAKES_NONE(mizgaure_detect_symbols(0, 0, &channel, 1, &received, 1, &hit, 1) == MIZGAURE_DONE);
+    TAKES_NONE(mizgaure_detect_symbols(0, 0, &channel, 1, &received, 1, &hit, 1, &label, 1, &sum, 1) == MIZGAURE_DONE);
     TAKES_NONE(mizgaure_weigh_symbols(0, 0, &channel, 1, &received, 1, &weight, 1) == MIZGAURE_DONE);
     TAKES_NONE(mizgaure_scramble(127, bits, 127) == MIZGAURE_DONE);
     TAKES_NONE(mizgaure_recover(bits, 7, &seed) == MIZGAURE_DONE && seed == 127);

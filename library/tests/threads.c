@@ -20,6 +20,8 @@ static int drawn(int below) {
 /* What the calls answer. */
 struct answers {
     mizgaure_hit hits[SAMPLES];
+    uint8_t labels[4 * SAMPLES];
+    mizgaure_distance sums[SAMPLES / CARRIERS];
     int32_t weights[4 * CARRIERS];
     bool coded[2 * STEPS], found[STEPS], softly[STEPS];
     mizgaure_point points[POINTS];
@@ -32,14 +34,15 @@ struct answers {
 /* Calls all; answers how many have a fault. */
 static int fill(struct answers *a) {
     bool input[STEPS] = {0};
-    uint8_t hard[2 * STEPS], labels[104], capture[CAPTURE] = {'H', 'T', 'C', 'P', 1, 0, 1, 0, 0, 0, 1};
+    uint8_t hard[2 * STEPS], heard[104], capture[CAPTURE] = {'H', 'T', 'C', 'P', 1, 0, 1, 0, 0, 0, 1};
     int32_t soft[2 * STEPS];
     mizgaure_refusal refusal;
     int faults = 0;
     for (int k = 0; k < STEPS - 6; k++) input[k] = k * k % 7 < 3;
     for (int k = 0; k < 56; k++) capture[12 + 2 * k] = 10;
     memset(a, 0, sizeof *a);
-    faults += mizgaure_detect_symbols(1, 31, channels, CARRIERS, received, SAMPLES, a->hits, SAMPLES) != 0;
+    faults += mizgaure_detect_symbols(1, 31, channels, CARRIERS, received, SAMPLES, a->hits, SAMPLES, a->labels, 4 * SAMPLES, a->sums,
+                                      SAMPLES / CARRIERS) != 0;
     faults += mizgaure_weigh_symbols(1, 9, channels, CARRIERS, received, CARRIERS, a->weights, 4 * CARRIERS) != 0;
     faults += mizgaure_encode(0, input, STEPS, a->coded, 2 * STEPS) != 0;
     for (int k = 0; k < 2 * STEPS; k++) hard[k] = k % 40 ? a->coded[k] : 2, soft[k] = k % 37 ? 20 * a->coded[k] - 10 : 3;
@@ -50,9 +53,9 @@ static int fill(struct answers *a) {
     mizgaure_point data[104];
     for (int c = 0, at = 0; c < POINTS; c++)
         if (c % 56 != 7 && c % 56 != 21 && c % 56 != 34 && c % 56 != 48) data[at++] = a->points[c];
-    faults += mizgaure_labels(2, data, 104, labels, 104) != 0;
-    labels[0] ^= 1;
-    faults += mizgaure_decode_frame(0, 1, 0, 0, labels, 104, a->octets, OCTETS, &a->differences) != 0;
+    faults += mizgaure_labels(2, data, 104, heard, 104) != 0;
+    heard[0] ^= 1;
+    faults += mizgaure_decode_frame(0, 1, 0, 0, heard, 104, a->octets, OCTETS, &a->differences) != 0;
     faults += mizgaure_detect(capture, CAPTURE, a->text, sizeof a->text, &a->size, &refusal) != 0;
     faults += mizgaure_certify(capture, CAPTURE, a->file, sizeof a->file, &a->length, &refusal) != 0;
     return faults;

@@ -3,6 +3,7 @@
 import ctypes
 import functools
 import importlib.util
+import itertools
 import os
 import subprocess
 import sys
@@ -11,7 +12,8 @@ import numpy as np
 import pytest
 from conftest import TOP, VECTORS
 
-from mizgaure import InputError, Rate
+from mizgaure import InputError, Rate, read_answers, read_htcp
+from mizgaure.inside import detected
 
 try:
     from mizgaure import library
@@ -43,9 +45,10 @@ def test_a_job_and_symbols_of_it():
     assert hit["points"].tolist() == [[1, -1], [-1, 1], [0, 0], [0, 0]] and hit["low"] == 0
     moved = np.broadcast_to(received, (3, 2, 4, 2)).copy()
     moved[:, :, 1, 0] += 3
-    out = np.empty((3, 2), library.HIT)
-    hits = library.detect_symbols(rate, np.repeat(channel[None], 2), moved, out=out)
-    assert hits is out and library.distances(hits) == [9] * 6 and (hits["points"] == hit["points"]).all()
+    hits, labels, sums = library.detect_symbols(rate, np.repeat(channel[None], 2), moved)
+    assert library.distances(hits) == [9] * 6 and (hits["points"] == hit["points"]).all()
+    assert labels.shape == (3, 2, 2) and (labels == (2, 1)).all()  # QPSK: the first bit is 1 where I is, the second where Q is
+    assert sums.shape == (3,) and library.distances(sums) == [18] * 3
     weights = library.weigh_symbols(rate, np.repeat(channel[None], 2), moved)
     assert weights.shape == (3, 2, 2, 2) and ((weights > 0) == [[True, False], [False, True]]).all()
 
@@ -54,6 +57,69 @@ def test_a_distance_of_66_bits_is_whole():
     channel, received = np.zeros((), library.CHANNEL), np.full((4, 2), -(2**31), np.int32)
     hit = library.nearest(Rate(40, 31), channel, received)
     assert library.distances(hit) == [2**65] and (hit["points"] == -7).all()
+    found = library.detect_symbols(Rate(40, 31), np.repeat(channel[None], 5), np.broadcast_to(received, (2, 5, 4, 2)))
+    assert library.distances(found.sums) == [5 * 2**65] * 2 and not found.labels.any()
+
+
+@pytest.mark.parametrize("mcs", range(32))
+def test_symbols_are_jobs_one_by_one(mcs):
+    """Labels are those of the points, and sums those of the distances, whichever outputs are wanted."""
+    rate, numbers = Rate(20 * (1 + mcs % 2), mcs), np.random.default_rng(mcs)
+    channels, received = np.zeros(11, library.CHANNEL), numbers.integers(-2000, 2000, (3, 11, 4, 2)).astype(np.int32)
+    channels["diagonal"] = numbers.integers(64, 256, (11, 4))
+    for part in ("re", "im"):
+        channels["above"][part] = numbers.integers(-64, 65, (11, 6))
+    due = np.array([[library.nearest(rate, channel, sample) for channel, sample in zip(channels, symbol)] for symbol in received], library.HIT)
+    labels = library.labels(rate.bits_per_point, np.ascontiguousarray(due["points"][:, :, : rate.streams]))
+    sums = [sum(library.distances(symbol)) for symbol in due]
+    for wanted in itertools.product((False, True), repeat=3):
+        found = library.detect_symbols(rate, channels, received, **dict(zip(library.Detected._fields, wanted)))
+        assert [array.size > 0 for array in found] == list(wanted)
+        assert not wanted[0] or (found.hits == due).all()
+        assert not wanted[1] or (found.labels == labels).all()
+        assert not wanted[2] or library.distances(found.sums) == sums
+
+
+@pytest.mark.parametrize("path", sorted((VECTORS / "rates").glob("*.htcp")), ids=lambda path: path.stem)
+def test_labels_and_sums_are_those_of_another_program(path):
+    """The octets that a frame's labels decode to, and the sum of its symbols' sums, stand in its line of vectors/, which no library wrote."""
+    for frame, line in zip(read_htcp(path), read_answers(path.with_suffix(".rx"))):
+        data = ~frame.rate.is_pilot
+        found = detected(frame.rate, frame.triangles[data], frame.samples[:, data])
+        assert sum(library.distances(found.sums)) == line.data
+        assert library.decode_frame(frame.rate, found.labels, frame.length) == (line.octets, line.code)
+
+
+def test_outputs_go_into_arrays_that_are_given():
+    channel, received = one_job()
+    channels, samples = np.repeat(channel[None], 2), np.broadcast_to(received, (3, 2, 4, 2)).copy()
+    made = np.full((3, 2), 85, library.HIT), np.full((3, 2, 2), 85, np.uint8), np.full(3, 85, library.DISTANCE)
+    due = library.detect_symbols(Rate(20, 9), channels, samples)
+    found = library.detect_symbols(Rate(20, 9), channels, samples, **dict(zip(library.Detected._fields, made)))
+    assert all(one is other for one, other in zip(found, made)) and all((one == other).all() for one, other in zip(found, due))
+    shared = np.zeros(144, np.uint8)
+    with pytest.raises(InputError, match="shares memory"):
+        library.detect_symbols(Rate(20, 9), channels, samples, hits=shared.view(library.HIT).reshape(3, 2), labels=shared[132:].reshape(3, 2, 2))
+    with pytest.raises(InputError, match="shares memory"):
+        library.detect_symbols(Rate(20, 9), channels, samples, labels=samples.view(np.uint8).reshape(-1)[:12].reshape(3, 2, 2))
+    for name, wrong in (
+        ("hits", made[0][:2]), ("hits", made[0].view(np.uint8)), ("hits", None), ("hits", 1), ("labels", made[1][:, :, :1]),
+        ("labels", made[1].view(np.int8)), ("labels", made[1].reshape(-1)), ("sums", made[2][:2]), ("sums", np.zeros(3, np.uint64)), ("sums", np.zeros(6, library.DISTANCE)[::2]),
+    ):
+        with pytest.raises(InputError):
+            library.detect_symbols(Rate(20, 9), channels, samples, **{name: wrong})
+    assert not shared.any() and all((one == other).all() for one, other in zip(made, due))
+
+
+def test_samples_that_are_no_whole_symbols_have_no_sums():
+    """What is received has a last axis of subcarriers, as many as channels."""
+    channels = np.ones(2, library.CHANNEL)
+    for shape in ((6,), (2, 3), (3, 1), (1, 6), ()):
+        with pytest.raises(library.BadLength):
+            library.detect_symbols(Rate(20, 0), channels, np.zeros(shape, library.RECEIVED))
+    found = library.detect_symbols(Rate(20, 0), channels, np.zeros((0, 2), library.RECEIVED))
+    assert [array.shape for array in found] == [(0, 2), (0, 2, 1), (0,)]
+    assert library.detect_symbols(Rate(20, 0), channels, np.zeros(2, library.RECEIVED)).sums.shape == ()
 
 
 @pytest.mark.parametrize("pattern", range(4))
@@ -275,8 +341,8 @@ def test_nothing_is_cut_or_written_past_its_array():
         lambda: library.soft_decode(0, np.full(12, 2**40), 6),
         lambda: library.detect_symbols(Rate(20, 9), channels, np.zeros((2, 4), np.int32)),
         lambda: library.detect_symbols(Rate(20, 9), np.zeros((2, 8), np.int16), received[None]),
-        lambda: library.detect_symbols(Rate(20, 9), channels, np.zeros((2, 4, 2), np.int32), out=np.empty(1, library.HIT)),
-        lambda: library.detect_symbols(Rate(20, 9), channels, np.zeros((2, 4, 2), np.int32), out=np.empty(4, library.HIT)[::2]),
+        lambda: library.detect_symbols(Rate(20, 9), channels, np.zeros((2, 4, 2), np.int32), hits=np.empty(1, library.HIT)),
+        lambda: library.detect_symbols(Rate(20, 9), channels, np.zeros((2, 4, 2), np.int32), hits=np.empty(4, library.HIT)[::2]),
         lambda: library.encode(0, np.zeros(7, np.bool_), out=np.empty(14, np.uint8)),
         lambda: library.decode_frame(Rate(20, 1), np.zeros(104, np.uint8), 10, erased=1 << 128),
     ):
@@ -312,18 +378,19 @@ def unaligned(array):
 def test_arrays_of_any_layout_have_the_same_hits(laid):
     """What doesn't fit is copied, and read-only arrays are read where they are."""
     channels = np.ones(2, library.CHANNEL)
-    wanted = library.detect_symbols(Rate(20, 27), channels, RECEIVED)
-    assert (library.detect_symbols(Rate(20, 27), channels, laid(RECEIVED)) == wanted).all()
+    wanted, found = (library.detect_symbols(Rate(20, 27), channels, received) for received in (RECEIVED, laid(RECEIVED)))
+    assert all((one == other).all() for one, other in zip(found, wanted))
 
 
 def test_arrays_that_fit_are_not_copied(monkeypatch):
     """Their own addresses go to the library."""
-    channels, samples, out = np.ones(2, library.CHANNEL), np.ones((3, 2), library.RECEIVED), np.empty((3, 2), library.HIT)
-    given = []
+    channels, samples, given = np.ones(2, library.CHANNEL), np.ones((3, 2), library.RECEIVED), []
+    hits, labels, sums = np.empty((3, 2), library.HIT), np.empty((3, 2, 4), np.uint8), np.empty(3, library.DISTANCE)
     monkeypatch.setattr(library, "_detect_symbols", lambda *words: given.extend(words) or 0)
     for received in (samples, RECEIVED):
-        assert library.detect_symbols(Rate(20, 27), channels, received, out=out) is out
-        assert [given[2], given[4], given[6]] == [array.ctypes.data for array in (channels, received, out)]
+        found = library.detect_symbols(Rate(20, 27), channels, received, hits=hits, labels=labels, sums=sums)
+        assert found.hits is hits and found.labels is labels and found.sums is sums
+        assert given[2::2] == [array.ctypes.data for array in (channels, received, hits, labels, sums)]
         given.clear()
 
 
@@ -334,7 +401,7 @@ def test_arrays_that_fit_are_not_copied(monkeypatch):
 def test_other_samples_are_refused_and_nothing_is_written(received):
     out = np.full((3, 2, 24), 85, np.uint8)
     with pytest.raises(InputError):
-        library.detect_symbols(Rate(20, 27), np.ones(2, library.CHANNEL), received, out=out.view(library.HIT)[..., 0])
+        library.detect_symbols(Rate(20, 27), np.ones(2, library.CHANNEL), received, hits=out.view(library.HIT)[..., 0])
     assert (out == 85).all()
 
 
@@ -361,7 +428,9 @@ def test_an_unaligned_out_is_refused():
 
 
 @pytest.mark.parametrize("call, fault", [
-    (lambda out: library.detect_symbols(Rate(20, 0), np.ones(4, library.CHANNEL), RECEIVED, out=out((3, 2), library.HIT)), library.BadLength),
+    (lambda out: library.detect_symbols(Rate(20, 0), np.ones(4, library.CHANNEL), RECEIVED, hits=out((3, 2), library.HIT)), library.BadLength),
+    (lambda out: library.detect_symbols(Rate(20, 8), np.ones(4, library.CHANNEL), RECEIVED, labels=out((3, 2, 2), np.uint8)), library.BadLength),
+    (lambda out: library.detect_symbols(Rate(20, 8), np.ones(1, library.CHANNEL), RECEIVED, sums=out(3, library.DISTANCE)), library.BadLength),
     (lambda out: library.weigh_symbols(Rate(20, 0), np.ones(4, library.CHANNEL), RECEIVED, out=out((3, 2, 1, 1), np.int32)), library.BadLength),
     (lambda out: library.scramble(0, np.ones(9, np.bool_), out=out(9, np.bool_)), library.NoSeed),
     (lambda out: library.decode(4, np.zeros(12, np.uint8), 6, out=out(6, np.bool_)), library.NoPattern),
@@ -394,7 +463,7 @@ def test_the_declarations_are_those_of_the_header():
 
 def test_the_layouts_are_those_of_the_header():
     """Sizes and places that mizgaure.h says."""
-    assert [dtype.itemsize for dtype in (library.TAP, library.CHANNEL, library.RECEIVED, library.HIT)] == [4, 32, 32, 24]
+    assert [dtype.itemsize for dtype in (library.TAP, library.CHANNEL, library.RECEIVED, library.HIT, library.DISTANCE)] == [4, 32, 32, 24, 16]
     assert library.CHANNEL.fields["above"][1] == 8 and library.HIT.fields["low"][1] == 8 and library.HIT.fields["high"][1] == 16
 
 

@@ -2,7 +2,7 @@
 //! one after another finds other points than the reference, the reference's are nearer.
 //!
 //!     MIZGAURE_LIB=folder-of-libmizgaure.a cargo run
-use mizgaure::{detect_symbols, transmit, Channel, Hit, Point, Rate, Received, Sample, Tap};
+use mizgaure::{detect_symbols, transmit, Channel, Hit, Outputs, Point, Rate, Received, Sample, Tap};
 
 /// The detector under test, for 16-QAM: the last stream first, its part taken away, then the other one.
 fn cancel(channel: &Channel, received: &Received) -> [Point; 2] {
@@ -42,7 +42,7 @@ fn main() -> Result<(), mizgaure::Fault> {
         Received { samples: [top, Sample { re: 40 * i + noise(), im: 40 * q + noise() }, Sample::default(), Sample::default()] }
     }).collect();
     let mut hits = vec![Hit::default(); received.len()];
-    detect_symbols(rate, &[channel; 56], &received, &mut hits)?;
+    detect_symbols(rate, &[channel; 56], &received, Outputs { hits: &mut hits, ..Outputs::default() })?;
     let own: Vec<_> = received.iter().map(|y| cancel(&channel, y)).collect();
     let worse = hits.iter().zip(&own).zip(&received).filter(|((hit, own), y)| distance(&channel, y, **own) > hit.distance()).count();
     let nearer = hits.iter().zip(&own).zip(&received).filter(|((hit, own), y)| distance(&channel, y, **own) < hit.distance()).count();

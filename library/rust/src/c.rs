@@ -1,5 +1,5 @@
 //! The declarations of `mizgaure.h`. `library/tests/declared.py` compares them with it.
-use crate::jobs::{Channel, Hit, Point, Received};
+use crate::jobs::{Channel, Distance, Hit, Point, Received};
 
 /// Where an input is refused, and the number of the fault's kind.
 #[repr(C)]
@@ -32,7 +32,7 @@ extern "C" {
     pub fn mizgaure_nearest(bandwidth: u8, mcs: u8, channel: *const Channel, received: *const Received, found: *mut Hit) -> u32;
     pub fn mizgaure_detect_symbols(
         bandwidth: u8, mcs: u8, channels: *const Channel, channels_n: usize, received: *const Received, received_n: usize,
-        hits: *mut Hit, hits_n: usize,
+        hits: *mut Hit, hits_n: usize, labels: *mut u8, labels_n: usize, sums: *mut Distance, sums_n: usize,
     ) -> u32;
     pub fn mizgaure_weigh_symbols(
         bandwidth: u8, mcs: u8, channels: *const Channel, channels_n: usize, received: *const Received, received_n: usize,

@@ -1,7 +1,7 @@
 //! Detection (clause 20.3.11.9): points, weights and certificates of data subcarriers.
 use crate::c;
 use crate::fault::{done, not_certified, Fault, NOT_CERTIFIED, NO_ROOM};
-use crate::jobs::{Channel, Hit, Received};
+use crate::jobs::{Channel, Distance, Hit, Received};
 use crate::rate::Rate;
 
 /// The vector of a data subcarrier that is nearest to what was received. Of several as near it is the first one: on the lowest stream
@@ -13,15 +13,29 @@ pub fn nearest(rate: Rate, channel: &Channel, received: &Received) -> Result<Hit
     Ok(found)
 }
 
-/// The same for any number of symbols of `channels.len()` data subcarriers. Received samples and hits stand symbol by symbol, and
-/// sample k meets channel k % `channels.len()`. `NoRate`; `BadLength` unless there is a channel, there are as many hits as samples, and
-/// the samples are a multiple of the channels.
-pub fn detect_symbols(rate: Rate, channels: &[Channel], received: &[Received], hits: &mut [Hit]) -> Result<(), Fault> {
-    // SAFETY: each pointer is that of as many values as the length behind it says, and the one that is written overlaps no other.
+/// What [`detect_symbols`] writes. Each part is whole, or empty where it is left out, as in
+/// `Outputs { labels: &mut labels, ..Outputs::default() }`.
+#[derive(Debug, Default)]
+pub struct Outputs<'a> {
+    /// As many as samples: what was found, sample by sample.
+    pub hits: &'a mut [Hit],
+    /// N_SS for each sample, in the order symbol, subcarrier, stream (that of `decode_frame`): the labels of the points that were found,
+    /// of N_BPSCS bits each, those that `labels` answers for them (clause 20.3.11.9).
+    pub labels: &'a mut [u8],
+    /// One for each symbol: the sum of the squared distances of its hits.
+    pub sums: &'a mut [Distance],
+}
+
+/// The nearest vectors, as of [`nearest`], of any number of symbols of `channels.len()` data subcarriers. Received samples stand symbol by
+/// symbol, and sample k meets channel k % `channels.len()`. `NoRate`; `BadLength` unless there is a channel, the samples are a multiple of
+/// the channels, and each output is empty or as long as [`Outputs`] says.
+pub fn detect_symbols(rate: Rate, channels: &[Channel], received: &[Received], into: Outputs<'_>) -> Result<(), Fault> {
+    let Outputs { hits, labels, sums } = into;
+    // SAFETY: each pointer is that of as many values as the length behind it says, and those that are written overlap no other.
     done(unsafe {
         c::mizgaure_detect_symbols(
             rate.bandwidth, rate.mcs, channels.as_ptr(), channels.len(), received.as_ptr(), received.len(), hits.as_mut_ptr(),
-            hits.len(),
+            hits.len(), labels.as_mut_ptr(), labels.len(), sums.as_mut_ptr(), sums.len(),
         )
     })
 }

@@ -57,3 +57,18 @@ impl Hit {
         whole(self.low, self.high)
     }
 }
+
+/// A sum of squared distances in two words.
+#[repr(C)]
+#[derive(Clone, Copy, Debug, Default, PartialEq, Eq)]
+pub struct Distance {
+    pub low: u64,
+    pub high: u64,
+}
+
+impl Distance {
+    /// The sum as one number.
+    pub fn whole(&self) -> u128 {
+        whole(self.low, self.high)
+    }
+}

@@ -35,11 +35,11 @@ mod symbols;
 mod texts;
 
 pub use chain::{decode, encode, recover, scramble, sent, soft_decode};
-pub use detection::{certify_job, check_job, detect_symbols, nearest, weigh_symbols};
+pub use detection::{certify_job, check_job, detect_symbols, nearest, weigh_symbols, Outputs};
 pub use encoders::{gather, join, lay, split};
 pub use fault::{Fault, Flaw, Kind};
 pub use frames::{decode_frame, soft_frame, transmit};
-pub use jobs::{Channel, Hit, Point, Received, Sample, Tap};
+pub use jobs::{Channel, Distance, Hit, Point, Received, Sample, Tap};
 pub use legacy::{legacy_decode_frame, legacy_origins, legacy_pilots, legacy_places, legacy_transmit};
 pub use rate::Rate;
 pub use symbols::{labels, origins, pilots, places, points};
@@ -49,7 +49,7 @@ pub use texts::{
 };
 
 /// The version of the calls that are declared here: MIZGAURE_VERSION of the header.
-pub const VERSION: u32 = 4;
+pub const VERSION: u32 = 5;
 
 /// The version of the library that is linked: it has the calls of this crate if it is [`VERSION`].
 pub fn version() -> u32 {

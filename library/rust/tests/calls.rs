@@ -3,7 +3,7 @@ use mizgaure::*;
 
 #[test]
 fn calls() {
-    assert_eq!(version(), 4);
+    assert_eq!(version(), VERSION);
     let mut bits = [false; 127];
     scramble(127, &mut bits).unwrap();
     assert_eq!(bits[..8], [false, false, false, false, true, true, true, false]); // clause 18.3.5.5
@@ -14,7 +14,7 @@ fn calls() {
     let hit = nearest(Rate { bandwidth: 0, mcs: 9 }, &channel, &received).unwrap();
     assert_eq!((hit.points[0], hit.points[1], hit.distance()), (Point { i: 1, q: -1 }, Point { i: -1, q: 1 }, 9));
     let mut hits = [Hit::default(); 3];
-    detect_symbols(Rate { bandwidth: 0, mcs: 9 }, &[channel], &[received; 3], &mut hits).unwrap();
+    detect_symbols(Rate { bandwidth: 0, mcs: 9 }, &[channel], &[received; 3], Outputs { hits: &mut hits, ..Outputs::default() }).unwrap();
     assert_eq!(hits, [hit; 3]);
     let input: Vec<bool> = (0..606).map(|k| k < 600 && k * k % 7 < 3).collect();
     let (mut coded, mut found) = ([false; 728], [false; 606]);
@@ -89,7 +89,7 @@ fn distance(channel: &Channel, received: &Received, [first, second]: [Point; 2])
     rows.iter().map(|row| row * row).sum()
 }
 
-/// Hits and weights of two streams of QPSK, whose 16 vectors are all tried in the order that decides ties.
+/// Hits, labels, sums and weights of two streams of QPSK, whose 16 vectors are all tried in the order that decides ties.
 #[test]
 fn all_vectors() {
     let rate = Rate { bandwidth: 0, mcs: 9 };
@@ -104,7 +104,8 @@ fn all_vectors() {
     let mut sample = |_| Sample { re: draw(20), im: draw(20) };
     let received: Vec<Received> = (0..50).map(|_| Received { samples: [0, 1, 2, 3].map(&mut sample) }).collect();
     let (mut hits, mut weights) = (vec![Hit::default(); 50], vec![0; 200]);
-    detect_symbols(rate, &channels, &received, &mut hits).unwrap();
+    let (mut labels, mut sums) = (vec![0; 100], vec![Distance::default(); 10]);
+    detect_symbols(rate, &channels, &received, Outputs { hits: &mut hits, labels: &mut labels, sums: &mut sums }).unwrap();
     weigh_symbols(rate, &channels, &received, &mut weights).unwrap();
     // QPSK: the first bit of a label is 1 where I is, the second one where Q is (clause 20.3.11.9).
     let bits: Vec<[bool; 4]> = (0..16).map(|k| [8, 4, 2, 1].map(|bit| k & bit != 0)).collect();
@@ -117,15 +118,31 @@ fn all_vectors() {
         let first = bits.iter().min_by_key(far).unwrap();
         assert_eq!((hits[k].points[..2].to_vec(), hits[k].distance()), (points(*first).to_vec(), far(&first) as u128));
         assert_eq!(Ok(hits[k]), nearest(rate, &channels[k % 5], received));
+        assert_eq!(labels[2 * k..2 * k + 2], first.chunks(2).map(|pair| 2 * u8::from(pair[0]) + u8::from(pair[1])).collect::<Vec<_>>());
         for bit in 0..4 {
             let least = |value: bool| bits.iter().filter(|label| label[bit] == value).map(|label| far(&label)).min().unwrap();
             assert_eq!(i64::from(weights[4 * k + bit]), (least(false) - least(true)).clamp(-65535, 65535));
         }
     }
-    assert_eq!(detect_symbols(rate, &[], &received, &mut hits), Err(Fault::BadLength));
-    assert_eq!(detect_symbols(rate, &channels, &received[1..], &mut hits[1..]), Err(Fault::BadLength));
-    assert_eq!(detect_symbols(rate, &channels, &received, &mut hits[1..]), Err(Fault::BadLength));
-    assert_eq!(detect_symbols(Rate { bandwidth: 2, mcs: 9 }, &channels, &received, &mut hits), Err(Fault::NoRate));
+    for (sum, hits) in sums.iter().zip(hits.chunks(5)) {
+        assert_eq!(sum.whole(), hits.iter().map(Hit::distance).sum());
+    }
+    // What is left out is left out alone.
+    let (mut again, mut twice) = (vec![9; 100], vec![Distance::default(); 10]);
+    detect_symbols(rate, &channels, &received, Outputs { labels: &mut again, ..Outputs::default() }).unwrap();
+    detect_symbols(rate, &channels, &received, Outputs { sums: &mut twice, ..Outputs::default() }).unwrap();
+    assert_eq!((&again, &twice), (&labels, &sums));
+    let mut all = |rate, channels: &[Channel], received: &[Received], [h, l, s]: [usize; 3]| {
+        detect_symbols(rate, channels, received, Outputs { hits: &mut hits[h..], labels: &mut labels[l..], sums: &mut sums[s..] })
+    };
+    assert_eq!(all(rate, &channels, &received, [50, 100, 10]), Ok(()));
+    assert_eq!(all(rate, &[], &received, [0; 3]), Err(Fault::BadLength));
+    assert_eq!(all(rate, &channels, &received[1..], [1, 2, 0]), Err(Fault::BadLength));
+    for wrong in [[1, 0, 0], [0, 1, 0], [0, 50, 0], [0, 0, 1]] {
+        assert_eq!(all(rate, &channels, &received, wrong), Err(Fault::BadLength));
+    }
+    assert_eq!(all(Rate { bandwidth: 2, mcs: 9 }, &channels, &received, [0; 3]), Err(Fault::NoRate));
+    assert_eq!((again, twice), (labels, sums));
     assert_eq!(weigh_symbols(rate, &channels, &received, &mut weights[1..]), Err(Fault::BadLength));
     assert_eq!(weigh_symbols(Rate { bandwidth: 0, mcs: 32 }, &channels, &received, &mut weights), Err(Fault::NoRate));
 }

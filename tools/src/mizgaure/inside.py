@@ -1,7 +1,8 @@
 """The proved library in place of the program, where it is there: the same answers to a frame, as arrays and with no text between.
 
-The nearest vectors of data subcarriers are those of `library.detect_symbols`, the octets those of `library.decode_frame`. What
-`radio` says of pilots, of a frame without a seed, and by soft decisions, is read from the library's text for that frame alone.
+The nearest vectors of data subcarriers with their labels are those of `library.detect_symbols`, the octets those of
+`library.decode_frame`. What `radio` says of pilots, of a frame without a seed, and by soft decisions, is read from the library's text
+for that frame alone.
 """
 
 from __future__ import annotations
@@ -9,7 +10,7 @@ from __future__ import annotations
 import io
 import os
 from contextlib import suppress
-from dataclasses import replace
+from dataclasses import dataclass, replace
 from typing import Iterator, Optional, Tuple, Union
 
 import numpy as np
@@ -32,6 +33,22 @@ except ImportError as error:
 HIGH = 1 << 64
 
 
+@dataclass
+class Heard(Jobs):
+    """The library's answers to the jobs of a frame, with what else its line and its octets need.
+
+    Parameters
+    ----------
+    labels : ndarray of uint8, shape (symbols, data subcarriers, streams)
+        The labels of the points, 0 where a subcarrier is erased.
+    data : int
+        The sum of the least distances over the frame's data subcarriers.
+    """
+
+    labels: np.ndarray
+    data: int
+
+
 class Inside:
     """The proved library as a receiver.
 
@@ -52,16 +69,18 @@ class Inside:
             found = [line.split(None, 5)[5].rstrip("\n") for line in maps if "libmizgaure" in line]
         return found[0] if found else "libmizgaure"
 
-    def jobs(self, number: int, frame: CaptureFrame) -> Jobs:
+    def jobs(self, number: int, frame: CaptureFrame) -> Heard:
         """The answers to a frame's jobs, as those of ``radio detect``."""
         rate, present = frame.rate, np.flatnonzero(~frame.erased)
         pilot = rate.is_pilot[present]
         points = np.zeros((len(frame.samples), present.size, rate.streams, 2), np.int8)
         low, high = np.zeros((2, *points.shape[:2]), np.uint64)
+        labels, total = np.zeros((len(frame.samples), rate.data_subcarriers, rate.streams), np.uint8), 0
         data = present[~pilot]
         if data.size:
-            hits = detected(rate, frame.triangles[data], frame.samples[:, data])
+            hits, labels[:, ~frame.erased[~rate.is_pilot]], sums = detected(rate, frame.triangles[data], frame.samples[:, data])
             points[:, ~pilot], low[:, ~pilot], high[:, ~pilot] = hits["points"][:, :, : rate.streams], hits["low"], hits["high"]
+            total = sum(library.distances(sums))
         distance: np.ndarray = low.astype(object) + high.astype(object) * HIGH if high.any() or (low >> np.uint64(63)).any() else low.astype(np.int64)
         values = points[..., 0] + 1j * points[..., 1]
         if pilot.any():
@@ -71,7 +90,7 @@ class Inside:
             distance = distance.astype(np.result_type(distance, known.distance), copy=False)
             distance[:, pilot] = known.distance.reshape(shape)
         symbol, carrier = places(frame)
-        return Jobs(number, symbol, carrier, distance.reshape(-1), values.reshape(-1, rate.streams))
+        return Heard(number, symbol, carrier, distance.reshape(-1), values.reshape(-1, rate.streams), labels, total)
 
     def _pilots(self, frame: CaptureFrame) -> Jobs:
         """What the library's text says of a frame's pilots, the data subcarriers being taken as erased."""
@@ -80,27 +99,22 @@ class Inside:
         assert isinstance(jobs, Jobs)
         return jobs
 
-    def answer(self, frame: CaptureFrame, jobs: Jobs) -> FrameAnswer:
+    def answer(self, frame: CaptureFrame, jobs: Heard) -> FrameAnswer:
         """The line of a frame, as that of ``radio rx``, from the answers to its jobs."""
-        pilot = frame.rate.is_pilot[jobs.carrier]
-        sums = [sum(jobs.distance[which].tolist()) for which in (~pilot, pilot)]
+        pilots = sum(jobs.distance[frame.rate.is_pilot[jobs.carrier]].tolist())
         found = self.octets(frame, jobs)
         if found is None:  # of a frame without a seed the call says nothing else
             (answer,) = read_answers(library.rx(_octets(frame)))
             assert isinstance(answer, FrameAnswer)
             return replace(answer, frame=jobs.frame)
-        return FrameAnswer(jobs.frame, *sums, found[1], found[0])
+        return FrameAnswer(jobs.frame, jobs.data, pilots, found[1], found[0])
 
     def octets(self, frame: CaptureFrame, jobs: Jobs) -> Optional[Tuple[bytes, int]]:
         """The octets of a frame whose points are these, and at how many places its coded bits differ; None where there is no seed."""
-        rate, data = frame.rate, ~frame.rate.is_pilot
-        labels = np.zeros((*frame.samples.shape[:2], rate.streams), np.uint8)
-        heard = data[jobs.carrier] & ~frame.erased[jobs.carrier]
-        points = np.stack((jobs.points[heard].real, jobs.points[heard].imag), axis=-1).astype(np.int8)
-        labels[jobs.symbol[heard], jobs.carrier[heard]] = library.labels(rate.bits_per_point, points)
+        labels = jobs.labels if isinstance(jobs, Heard) else _labels(frame, jobs)
         erased = sum(1 << int(place) for place in np.flatnonzero(frame.erased))
         try:
-            return library.decode_frame(rate, np.ascontiguousarray(labels[:, data]), frame.length, erased)
+            return library.decode_frame(frame.rate, labels, frame.length, erased)
         except library.NoSeed:
             return None
 
@@ -129,13 +143,13 @@ class Called:
 
     def __init__(self, library: Inside, capture: Source, label: str) -> None:
         self._library = library
-        self._jobs: Optional[Jobs] = None
+        self._jobs: Optional[Heard] = None
         count = None
         with suppress(InputError), read_htcp(capture) as frames:
             count = frames.frames
         self._bar = Progress(count, label, unit=" frames")
 
-    def jobs(self, number: int, frame: CaptureFrame) -> Jobs:
+    def jobs(self, number: int, frame: CaptureFrame) -> Heard:
         """Its answers to the jobs of a frame."""
         self._bar.add(number - self._bar.done)
         self._jobs = self._library.jobs(number, frame)
@@ -187,8 +201,8 @@ def receiver(program: Optional[str] = None, progress: Optional[bool] = None) -> 
     return Inside() if library is not None and program is None else Radio(program, progress)
 
 
-def detected(rate: Rate, triangles: np.ndarray, samples: np.ndarray) -> np.ndarray:
-    """The hits of data subcarriers, `library.HIT` of shape (symbols, subcarriers).
+def detected(rate: Rate, triangles: np.ndarray, samples: np.ndarray) -> library.Detected:
+    """What was found for data subcarriers, its hits of shape (symbols, subcarriers).
 
     Parameters
     ----------
@@ -204,6 +218,16 @@ def detected(rate: Rate, triangles: np.ndarray, samples: np.ndarray) -> np.ndarr
     channels["above"]["re"][:, : rows.size], channels["above"]["im"][:, : rows.size] = above.real, above.imag
     received[:, :, :streams, 0], received[:, :, :streams, 1] = samples.real, samples.imag
     return library.detect_symbols(rate, channels, received)
+
+
+def _labels(frame: CaptureFrame, jobs: Jobs) -> np.ndarray:
+    """The labels of points, (symbols, data subcarriers, streams), 0 where a subcarrier is erased."""
+    rate, data = frame.rate, ~frame.rate.is_pilot
+    labels = np.zeros((*frame.samples.shape[:2], rate.streams), np.uint8)
+    heard = data[jobs.carrier] & ~frame.erased[jobs.carrier]
+    points = np.stack((jobs.points[heard].real, jobs.points[heard].imag), axis=-1).astype(np.int8)
+    labels[jobs.symbol[heard], jobs.carrier[heard]] = library.labels(rate.bits_per_point, points)
+    return np.ascontiguousarray(labels[:, data])
 
 
 def _octets(frame: CaptureFrame) -> bytes:

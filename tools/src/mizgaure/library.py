@@ -6,8 +6,9 @@ Each function is one call of the library, which ``mizgaure.h`` and docs/LIBRARY.
 The library is looked for at ``MIZGAURE_LIBRARY``, then beside this file as ``libmizgaure.so.0``, and then by that name as the
 system does. Importing this module fails with an ``ImportError`` where there is none, or one of other calls.
 
-Arrays of the right type, C-contiguous and aligned, are passed as they are; others are converted, but never an ``out``. An ``out``
-may not share memory with another argument. The interpreter's lock is let go during a call, so threads run side by side.
+Arrays of the right type, C-contiguous and aligned, are passed as they are; others are converted, but never one that is written to,
+as an ``out`` is, which may not share memory with another argument. The interpreter's lock is let go during a call, so threads run
+side by side.
 """
 
 from __future__ import annotations
@@ -15,14 +16,14 @@ from __future__ import annotations
 import ctypes
 import os
 from pathlib import Path
-from typing import Optional, Union
+from typing import NamedTuple, Optional, Union
 
 import numpy as np
 
 from .errors import InputError
 from .rates import Rate
 
-VERSION = 4
+VERSION = 5
 
 #: An entry of a channel above the diagonal.
 TAP = np.dtype([("re", "<i2"), ("im", "<i2")])
@@ -32,9 +33,14 @@ CHANNEL = np.dtype([("diagonal", "<u2", 4), ("above", TAP, 6)])
 RECEIVED = np.dtype([("samples", "<i4", (4, 2))])
 #: What was found for a subcarrier: a point (I, Q) for each stream, and the distance ``low + 2**64 * high`` (24 octets).
 HIT = np.dtype([("points", "i1", (4, 2)), ("low", "<u8"), ("high", "<u8")])
+#: A sum of squared distances: ``low + 2**64 * high`` (16 octets).
+DISTANCE = np.dtype([("low", "<u8"), ("high", "<u8")])
 
 #: What holds octets, as ``bytes`` and arrays of uint8 do.
 Octets = Union[bytes, bytearray, memoryview, np.ndarray]
+
+#: An output of several: True where it is wanted, False where it is left out, or the array that it is put into.
+Wanted = Union[bool, np.ndarray]
 
 
 class Fault(InputError):
@@ -172,7 +178,7 @@ def _call(name: str, *types: type):
 
 
 _nearest = _call("nearest", _U8, _U8, _P, _P, _P)
-_detect_symbols = _call("detect_symbols", _U8, _U8, _P, _N, _P, _N, _P, _N)
+_detect_symbols = _call("detect_symbols", _U8, _U8, _P, _N, _P, _N, _P, _N, _P, _N, _P, _N)
 _weigh_symbols = _call("weigh_symbols", _U8, _U8, _P, _N, _P, _N, _P, _N)
 _scramble = _call("scramble", _U8, _P, _N)
 _recover = _call("recover", _P, _N, _P)
@@ -217,8 +223,11 @@ _many_size = _call("many_size", _P, _N)
 _check_size = _call("check_size", _P, _N)
 
 _PERIODS = (1, 2, 3, 5)
-_INT32 = np.dtype(np.int32)
+_INT32, _UINT8 = np.dtype(np.int32), np.dtype(np.uint8)
 _octet_at = ctypes.c_char.from_buffer
+_EMPTY = 16
+#: What stands for outputs that are left out.
+_NO_HITS, _NO_LABELS, _NO_SUMS = (np.empty(0, dtype) for dtype in (HIT, _UINT8, DISTANCE))
 
 
 def _check(fault: int) -> None:
@@ -290,22 +299,42 @@ def _out(out: Optional[np.ndarray], shape, dtype) -> np.ndarray:
 
 
 def _at(array: np.ndarray) -> int:
-    """Where the array lies: by its buffer, which is quicker where its elements are numbers and it is neither fixed nor empty."""
-    if array.dtype.names is None:
-        try:
+    """Where the array lies: by the quickest way that there is, and that of MIZGAURE_EMPTY if it has no elements."""
+    if not array.size:
+        return _EMPTY
+    try:
+        if array.dtype.names is None:
             return ctypes.addressof(_octet_at(array))
-        except (TypeError, ValueError):
-            pass
+        if array.ndim:
+            return ctypes.addressof(_octet_at(array.view(_UINT8)))
+    except TypeError:  # a fixed array lends no buffer
+        pass
     return array.ctypes.data
 
 
-def _apart(out: np.ndarray, *others: np.ndarray) -> tuple[int, ...]:
-    """Where the arrays lie, if the first, which is written, shares no octet with another."""
-    at, *places = addresses = _at(out), *map(_at, others)
-    end = at + out.nbytes
-    for place, other in zip(places, others):
-        if at < place + other.nbytes and place < end:
-            raise InputError("out shares memory with another argument")
+def _wanted(wanted: Wanted, shape: tuple[int, ...], none: np.ndarray) -> np.ndarray:
+    """The array of an output: a new one, the caller's, or `none`, which has its type, where it is left out."""
+    if wanted is False:
+        return none
+    if wanted is True:
+        return np.empty(shape, none.dtype)
+    if wanted is None:
+        raise InputError("an output is True, False or the array that it is put into")
+    return _out(wanted, shape, none.dtype)
+
+
+def _apart(*arrays: np.ndarray, written: int = 1) -> list[int]:
+    """Where the arrays lie, if the first ones, so many as are written, share no octet with another."""
+    addresses, taken = [], []
+    for array in arrays:
+        at = _at(array)
+        end = at + array.nbytes
+        for first, last in taken:
+            if first < end and at < last:
+                raise InputError("out shares memory with another argument")
+        if len(taken) < written:
+            taken.append((at, end))
+        addresses.append(at)
     return addresses
 
 
@@ -340,32 +369,56 @@ def nearest(rate: Rate, channel: np.ndarray, received: np.ndarray) -> np.void:
     return found[()]
 
 
-def detect_symbols(rate: Rate, channels: np.ndarray, received: np.ndarray, out: Optional[np.ndarray] = None) -> np.ndarray:
-    """The first nearest vector of each data subcarrier of any number of symbols.
+class Detected(NamedTuple):
+    """What ``detect_symbols`` found for the data subcarriers of symbols. What was left out is an array of no elements.
+
+    Attributes
+    ----------
+    hits : HIT, shape (.., subcarriers)
+        The nearest points and their squared distance.
+    labels : uint8, shape (.., subcarriers, streams)
+        The labels of these points, of ``rate.bits_per_point`` bits, in the order of ``decode_frame``.
+    sums : DISTANCE, shape (..)
+        For each symbol the sum of the squared distances of its subcarriers; ``distances(sums)`` has them as whole numbers.
+    """
+
+    hits: np.ndarray
+    labels: np.ndarray
+    sums: np.ndarray
+
+
+def detect_symbols(rate: Rate, channels: np.ndarray, received: np.ndarray, *,
+                   hits: Wanted = True, labels: Wanted = True, sums: Wanted = True) -> Detected:
+    """The first nearest vector of each data subcarrier of any number of symbols: its points, their labels, and sums of distances.
 
     Parameters
     ----------
     rate : Rate
     channels : CHANNEL, shape (subcarriers,)
     received : RECEIVED, shape (.., subcarriers), or int32 of shape (.., subcarriers, 4, 2)
-    out : HIT, shape (.., subcarriers), optional
-        Where the hits are put.
+        In the unit of a channel's entries times points, which are odd numbers.
+    hits, labels, sums : bool or ndarray, optional
+        Whether that output is wanted, or the array that it is put into, of the type and the shape that ``Detected`` has.
 
     Returns
     -------
-    HIT, shape (.., subcarriers)
+    Detected
     """
     channels, received = _given(channels, CHANNEL), _samples(received)
-    hits = _out(out, received.shape, HIT)
-    into, of, samples = _apart(hits, channels, received)
-    _check(_detect_symbols(*_rate(rate), of, channels.size, samples, received.size, into, hits.size))
-    return hits
+    shape = received.shape
+    hits, labels = _wanted(hits, shape, _NO_HITS), _wanted(labels, (*shape, rate.streams), _NO_LABELS)
+    sums = _wanted(sums, shape[:-1], _NO_SUMS)
+    hits_at, labels_at, sums_at, of, samples = _apart(hits, labels, sums, channels, received, written=3)
+    _check(_detect_symbols(
+        *_rate(rate), of, channels.size, samples, received.size, hits_at, hits.size, labels_at, labels.size, sums_at, sums.size,
+    ))
+    return Detected(hits, labels, sums)
 
 
-def distances(hits: np.ndarray) -> list[int]:
-    """The squared distances of hits, as Python's whole numbers, which hold all of their 66 bits."""
-    hits = np.asarray(hits).reshape(-1)
-    return [low + (high << 64) for low, high in zip(hits["low"].tolist(), hits["high"].tolist())]
+def distances(found: np.ndarray) -> list[int]:
+    """The squared distances of hits, or of DISTANCE, as Python's whole numbers, which hold all of their bits."""
+    found = np.asarray(found).reshape(-1)
+    return [low + (high << 64) for low, high in zip(found["low"].tolist(), found["high"].tolist())]
 
 
 def weigh_symbols(rate: Rate, channels: np.ndarray, received: np.ndarray, out: Optional[np.ndarray] = None) -> np.ndarray:

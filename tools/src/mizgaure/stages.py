@@ -400,7 +400,7 @@ def _legacy_answers(source) -> Iterator[Tuple[Optional[bytes], int]]:
 
 def _detected(rate: Rate, triangles: np.ndarray, samples: np.ndarray) -> np.ndarray:
     """The labels of data subcarriers, (symbols, subcarriers, streams), from channels and samples."""
-    return library.labels(rate.bits_per_point, np.ascontiguousarray(detected(rate, triangles, samples)["points"][:, :, : rate.streams]))
+    return detected(rate, triangles, samples).labels
 
 
 def _labels(frame: CaptureFrame) -> Tuple[np.ndarray, np.ndarray]:
