@@ -2,4 +2,5 @@ pub mod Octets
 pub mod Splitting
 pub mod Fronts
 pub mod Seeing
+pub mod InLanes
 mod Worked

@@ -101,3 +101,17 @@ block_counts most left number more count s block is some few within low given wh
       few = omega (arith, size, few);
       fewer = omega (arith, size, within);
     }
+
+-- what is said of eight of its jobs, from the one on that has so many others before it
+pub block_labelled : (s d : SymbolView) (first count at : ℕ) (says : ℕ → JobView → Type 0) → d ≡ s → at + 8 ≤ count
+    → ((k : ℕ) → k < 8 → says k (job_of d (first + at + k)))
+    → (k : ℕ) → k < 8 → IfSome (slice_get (jobs_between s first count) (at + k)) (λ job. says k job)
+block_labelled s d first count at says same within each k lt =
+    let sum : first + at + k ≡ first + (at + k) = omega arith in
+    let here : says k (job_of s (first + (at + k))) =
+    subst (λ (n : ℕ). says k (job_of s n)) sum (subst (λ (x : SymbolView). says k (job_of x (first + at + k))) same (each k lt)) in
+    subst (λ (o : Option JobView). IfSome o (λ job. says k job)) (sym (jobs_get s count first (at + k) (omega (arith, within, lt)))) here
+
+-- eight of its jobs are among its symbol's
+pub eight_inside : (s : SymbolView) (first count at : ℕ) → at + 8 ≤ length (jobs_between s first count) → at + 8 ≤ count
+eight_inside s first count at within = subst (λ n. at + 8 ≤ n) (jobs_length s first count) within

@@ -3,3 +3,4 @@ pub mod Fronts
 pub mod Symbols
 pub mod Frames
 pub mod Readers
+pub mod Lanes

@@ -5,9 +5,13 @@ ghost use Rattle.ht_clause18.specs.Carriers.{carriers};
 ghost use Rattle.ht_legacy_blocks.specs.Jobs.{jobs_between};
 
 use crate::head::LegacyFrameHead;
+use crate::lanes;
 use crate::symbol::LegacySymbol;
+use ht_capture_blocks::InLanes;
 use ht_feed::{InFrame, Jobs, Shared};
 use ht_metric::{Job, Place};
+use ht_rate::Modulation;
+use ht_rounding::Labelled;
 use std::alloc::Global;
 use std::marker::Model;
 use std::sync::Arc;
@@ -74,6 +78,15 @@ impl Jobs for LegacyBlock {
     #[tactic(auto, using(crate::proofs::Splitting::jobs_length))]
     fn job(&self, at: u16) -> Job {
         self.symbol.job(self.first + at as u8)
+    }
+}
+
+impl InLanes for LegacyBlock {
+    /// Diagonals and samples are loaded straight from the octets of the symbol.
+    #[inline]
+    #[tactic(auto, using(crate::proofs::Splitting::jobs_length))]
+    fn labels(&self, modulation: Modulation, at: u16) -> Labelled {
+        lanes::labels(&self.symbol, modulation, self.first + at as u8)
     }
 }
 

@@ -22,6 +22,7 @@ mod block;
 mod fields;
 mod grids;
 mod head;
+mod lanes;
 mod reader;
 mod stage;
 mod symbol;

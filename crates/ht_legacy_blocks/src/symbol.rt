@@ -129,7 +129,7 @@ impl LegacySymbol {
 
     // The diagonal of a subcarrier.
     #[inline]
-    fn diagonal(&self, carrier: u8) -> u16
+    pub(crate) fn diagonal(&self, carrier: u8) -> u16
         requires { carrier < carriers }
         ensures { result ≡ slice_index_or self.now.diagonals carrier 0 }
     {
@@ -138,7 +138,7 @@ impl LegacySymbol {
 
     // The sample of a subcarrier.
     #[inline]
-    fn sample(&self, carrier: u8) -> Sample
+    pub(crate) fn sample(&self, carrier: u8) -> Sample
         requires { carrier < carriers }
         ensures { result ≡ slice_index_or self.now.samples carrier no_sample }
     {

@@ -1,17 +1,22 @@
 //! Labels of clause 18 frames, as what is kept of their jobs.
-ghost use Rattle.std.specs.Prelude.{◌≡◌, ◌≤◌, IsTrue};
+ghost use Rattle.std.specs.Prelude.{◌≡◌, ◌^◌, ◌<◌, ◌≤◌, IsTrue};
 ghost use Rattle.ht_clause18.specs.Carriers.{carrier_of};
+ghost use Rattle.ht_clause18.specs.Rates.{modulation_of};
+ghost use Rattle.ht_metric.specs.Jobs.{near};
 ghost use Rattle.ht_legacy_rx.specs.Folding.{IsWithinLimits, with_octets};
 ghost use Rattle.ht_legacy_rx.specs.Results.{first_label, legacy_plan, result_of};
+ghost use Rattle.ht_legacy_rx.proofs.Labelling.{one_label};
 
 use ht_clause18::{LegacyRate, legacy_carrier};
+use ht_eights::LabelKind;
 use ht_feed::Gate;
 use ht_frames::{Kind, Together, run_gated};
 use ht_legacy_blocks::LegacyFrameHead;
 use ht_legacy_inverse::legacy_decode_frame;
-use ht_metric::{Job, Vector};
+use ht_metric::{Found, Job, Vector};
 use ht_rate::{Carrier, Modulation};
 use ht_results::{FrameResult, label_for, same_labels};
+use ht_rounding::find_only;
 use std::alloc::{AllocError, Global};
 
 /// The most octets of a frame.
@@ -37,6 +42,21 @@ fn kind(carrier: u8) -> Carrier
     } else {
         Carrier::Data(carrier - 4)
     }
+}
+
+// What is found for a job between the two calls of a gate: at once where neither does anything and the job has one vector, as
+// on a pilot.
+#[inline(always)]
+fn found_by<G: Gate>(gate: &G, job: &Job) -> Found
+    ensures found { result ≡ near job.now }
+    ensures below { result.distance < 2 ^ 66 }
+{
+    if gate.is_open() {
+        if let Some(found) = find_only(job) {
+            return found;
+        }
+    }
+    run_gated(gate, job)
 }
 
 // The label of the one stream of a vector.
@@ -147,7 +167,7 @@ impl Kind for LegacyLabels {
         gate: &G,
         values: &mut Vec<u8>,
     ) -> Result<u128, AllocError> {
-        let found = run_gated(gate, job);
+        let found = found_by(gate, job);
         if let Carrier::Data(_) = carrier {
             values.push(vector_label(head.rate.modulation(), &found.vector))?;
         }
@@ -167,6 +187,16 @@ impl Kind for LegacyLabels {
         let decoded = legacy_decode_frame(alloc, head.rate, head.length, kept)?;
         Ok(FrameResult::of(head.frame, data_sum, pilot_sum, decoded))
     }
+}
+
+impl LabelKind for LegacyLabels {
+    ghost modulation_in = { λ head. modulation_of head.rate };
+
+    fn modulation(head: &LegacyFrameHead) -> Modulation {
+        head.rate.modulation()
+    }
+
+    ghost labels = { one_label };
 }
 
 /// One codeword, decoded in one thread.

@@ -7,8 +7,9 @@ ghost use Rattle.ht_receive.specs.Ends.{StreamsText};
 ghost use Rattle.ht_legacy_rx.specs.Texts.{legacy_items, legacy_lines_of, legacy_text};
 
 use crate::labels::LegacyLabels;
+use ht_eights::LaneWork;
 use ht_feed::Gate;
-use ht_frames::{BesideFrames, Frame, Frames, Kind, TallyWork, TextBook};
+use ht_frames::{BesideFrames, Frame, Frames, Kind, TextBook};
 use ht_io::{Sink, Source};
 use ht_legacy_blocks::LegacyReader;
 use ht_receive::{put_end, receive, receive_alone};
@@ -42,7 +43,7 @@ pub fn legacy_receive_alone<S: Source, K: Sink, G: Gate>(
     let reader = LegacyReader::new(alloc)?;
     let head = LegacyLabels::no_head();
     let under_way = Frame::<LegacyLabels>::new(alloc);
-    let work = TallyWork::new(alloc, gate);
+    let work = LaneWork::<LegacyLabels, G>::new(alloc, gate);
     let mut book = TextBook::new(alloc, sink);
     let ended = receive_alone(
         alloc, reader, head, window, &work, source, under_way, &mut book,
@@ -80,7 +81,7 @@ pub fn legacy_receive<R: Threads + Wait + Sync, S: Source, K: Sink, G: Gate + Sy
     let under_way = Frame::<LegacyLabels>::new(alloc);
     let frames = Frames::new(alloc);
     let work = BesideFrames {
-        work: TallyWork::new(alloc, gate),
+        work: LaneWork::<LegacyLabels, G>::new(alloc, gate),
         frames: &frames,
     };
     let mut book = TextBook::new(alloc, sink);

@@ -1,0 +1,385 @@
+//! Tallies of blocks whose jobs are found eight at a time.
+ghost use Rattle.std.specs.Prelude.{◌≡◌, ◌+◌, ◌-◌, ◌*◌, ◌/◌, ◌%◌, ◌^◌, ◌<◌, ◌≤◌, ◌++◌, ◌∷◌, [], ℕ, List, true, length, slice_index, IfOk, OnOk};
+ghost use Rattle.std.specs.List.{range_with_len};
+ghost use Rattle.ht_metric.specs.Jobs.{JobView};
+ghost use Rattle.ht_rate.specs.declared.kinds.Carrier.TheVariants.{Data};
+ghost use Rattle.ht_rounding.specs.Labels.{labels_in};
+ghost use Rattle.ht_frames.specs.Tallies.{IsTally};
+ghost use Rattle.ht_results.specs.Folding.{label_at};
+ghost use Rattle.ht_eights.specs.InLanes.{AreLabelledFrom, HasFirst, jobs_behind, lane_labels};
+
+use crate::label_kind::LabelKind;
+use ht_capture_blocks::InLanes;
+use ht_feed::{Gate, InFrame, Jobs, OpenGate, Work, is_hard};
+use ht_frames::{Tally, tally_of};
+use ht_metric::Place;
+use ht_rate::{Carrier, Modulation};
+use ht_rounding::Labelled;
+use std::alloc::{AllocError, Global};
+use std::marker::PhantomData;
+
+/// Makes the tally of any block that knows its frame. Where the gate is open, jobs are found eight at a time, in lanes (crate
+/// `ht_rounding`); else each by itself, between the two calls of the gate.
+#[derive(Drop)]
+pub struct LaneWork<'g, K, G> {
+    alloc: Global,
+    gate: &'g G,
+    kind: PhantomData<K>,
+}
+
+impl<'g, K, G> LaneWork<'g, K, G> {
+    /// A work that takes memory for labels here, and calls this before and after each job.
+    pub fn new(alloc: Global, gate: &'g G) -> LaneWork<'g, K, G> {
+        LaneWork {
+            alloc,
+            gate,
+            kind: PhantomData,
+        }
+    }
+}
+
+impl<'g, K: LabelKind, B: InFrame<Head = K::Head> + InLanes, G: Gate> Work<B>
+    for LaneWork<'g, K, G> {
+    type Answer = Tally<K>;
+
+    fn answer_to(&self, block: &B) -> Result<Tally<K>, AllocError> {
+        let head = block.head();
+        if self.gate.is_open() {
+            return tally_in_lanes(self.alloc, head, block);
+        }
+        tally_of::<K, B, G>(self.alloc, head, block, self.gate)
+    }
+
+    /// Whether the last job, which speaks for all, was hard.
+    fn is_hard(&self, _: &B, tally: &Tally<K>) -> bool {
+        tally.hard
+    }
+}
+
+// The last eight bits.
+#[inline(always)]
+fn octet(number: u32) -> u8
+    ensures { result ≡ number % 256 }
+{
+    (number % 256) as u8
+}
+
+// Puts the labels of a lane behind others, stream by stream.
+#[inline(always)]
+fn push_lane(labels: &mut Vec<u8>, lanes: &Labelled, k: usize) -> Result<(), AllocError>
+    requires lane { k < 8 }
+    requires some { 1 ≤ lanes.now.streams }
+    requires most { lanes.now.streams ≤ 4 }
+    ensures { OnOk result (labels.new.items ≡ labels.old.items ++ labels_in lanes.now k) }
+{
+    let first = octet(lanes.first[k]);
+    let second = octet(lanes.second[k]);
+    let third = octet(lanes.third[k]);
+    let fourth = octet(lanes.fourth[k]);
+    match lanes.streams {
+        1 => labels.push(first)?,
+        2 => labels.extend_from_slice(&[first, second])?,
+        3 => labels.extend_from_slice(&[first, second, third])?,
+        _ => labels.extend_from_slice(&[first, second, third, fourth])?,
+    }
+    Ok(())
+}
+
+// The labels of eight jobs of a block, from the one on that has `at` others before it, in the lanes that are sure.
+#[inline(always)]
+fn lanes_from<B: InLanes>(modulation: Modulation, block: &B, at: u16) -> Labelled
+    requires within { at + 8 ≤ length (B.jobs block.now) }
+    ensures some { 1 ≤ result.streams }
+    ensures most { result.streams ≤ 4 }
+    ensures labels { AreLabelledFrom (label_at modulation) (B.jobs block.now) at result }
+{
+    block.labels(modulation, at)
+}
+
+// A run of jobs on data subcarriers that follow one another: the place in the frame of its first label, the number of its jobs,
+// and the sum of their squared distances.
+#[derive(Clone, Copy)]
+struct Run {
+    place: usize,
+    jobs: u16,
+    distance: u64,
+}
+
+// The squared distance in a lane.
+#[inline(always)]
+fn distance_in(lanes: &Labelled, k: u16) -> u64
+    requires { k < 8 }
+    ensures value { result ≡ slice_index lanes.now.distance k }
+    ensures few { result < 2 ^ 32 }
+{
+    u64::from(lanes.distance[usize::from(k)])
+}
+
+// Whether a lane is sure.
+#[inline(always)]
+fn is_sure(lanes: &Labelled, k: u16) -> bool
+    requires { k < 8 }
+    ensures { result ≡ true → 0 < slice_index lanes.now.sure k }
+{
+    lanes.sure[usize::from(k)] != 0
+}
+
+// Whether a place is that of data subcarrier m of a symbol.
+#[inline(always)]
+fn is_at<K: LabelKind>(head: &K::Head, place: Place, symbol: u32, m: u16) -> bool
+    ensures symbol { result ≡ true → place.symbol ≡ symbol }
+    ensures carrier { result ≡ true → K.plan.kind head.now place.carrier ≡ Data m }
+{
+    match K::carries(head, place.carrier) {
+        Carrier::Data(other) => u16::from(other) == m && place.symbol == symbol,
+        Carrier::Pilot(_) => false,
+    }
+}
+
+// Puts the labels of the longest run of eight jobs of a block that begins in the lane `first`, and whose lanes are sure, behind
+// others. The eight are those from the one on that has `at` others before it. The only error is lack of memory.
+#[inline(always)]
+fn push_run<K: LabelKind, B: Jobs>(
+    labels: &mut Vec<u8>,
+    head: &K::Head,
+    block: &B,
+    at: u16,
+    lanes: &Labelled,
+    first: u16,
+) -> Result<Run, AllocError>
+    requires first { first < 8 }
+    requires within { at + 8 ≤ length (B.jobs block.now) }
+    requires few { length (B.jobs block.now) < 2 ^ 16 }
+    requires some { 1 ≤ lanes.now.streams }
+    requires most { lanes.now.streams ≤ 4 }
+    requires streams { lanes.now.streams ≡ K.plan.width head.now }
+    requires labels { AreLabelledFrom (label_at (K.modulation_in head.now)) (B.jobs block.now) at lanes.now }
+    ensures within { IfOk result (λ run. first + run.jobs ≤ 8) }
+    ensures few { IfOk result (λ run. run.distance ≤ run.jobs * 2 ^ 32) }
+    ensures labels { IfOk result (λ run. labels.new.items ≡ labels.old.items ++ lane_labels lanes.now first run.jobs) }
+    ensures is { IfOk result (λ run. IsTally K.plan head.now (jobs_behind (B.jobs block.now) (at + first) run.jobs) run.jobs run.distance 0
+        (range_with_len run.place (run.jobs * lanes.now.streams)) (lane_labels lanes.now first run.jobs)) }
+{
+    let start = block.place_at(at + first);
+    let Carrier::Data(m) = K::carries(head, start.carrier) else {
+        return Ok(Run {
+            place: 0,
+            jobs: 0,
+            distance: 0,
+        });
+    };
+    let place = K::place(head, start.symbol, m);
+    let mut distance = 0;
+    for k in first..8 {
+        let jobs = k - first;
+        if !is_sure(lanes, k)
+            || !is_at::<K>(
+                head,
+                block.place_at(at + k),
+                start.symbol,
+                u16::from(m) + jobs,
+            )
+        {
+            return Ok(Run {
+                place,
+                jobs,
+                distance,
+            });
+        }
+        push_lane(labels, lanes, usize::from(k))?;
+        distance += distance_in(lanes, k);
+    }
+    Ok(Run {
+        place,
+        jobs: 8 - first,
+        distance,
+    })
+}
+
+// Adds the longest run of eight jobs of a block that begins in the lane `first`, and answers how many jobs it has: none where that
+// lane isn't sure, or its job is on a pilot subcarrier.
+#[inline(always)]
+fn add_run<K: LabelKind, B: Jobs>(
+    tally: &mut Tally<K>,
+    block: &B,
+    at: u16,
+    lanes: &Labelled,
+    first: u16,
+) -> Result<u16, AllocError>
+    requires first { first < 8 }
+    requires within { at + 8 ≤ length (B.jobs block.now) }
+    requires few { length (B.jobs block.now) < 2 ^ 16 }
+    requires some { 1 ≤ lanes.now.streams }
+    requires most { lanes.now.streams ≤ 4 }
+    requires labels { AreLabelledFrom (label_at (K.modulation_in tally.old.head)) (B.jobs block.now) at lanes.now }
+    requires is { HasFirst K.plan (B.jobs block.now)
+        (at + first) tally.old.head tally.old.head tally.old.jobs tally.old.data_sum tally.old.pilot_sum tally.old.places tally.old.values.items }
+    ensures within { IfOk result (λ jobs. first + jobs ≤ 8) }
+    ensures is { IfOk result (λ jobs. HasFirst K.plan (B.jobs block.now)
+        (at + first + jobs) tally.old.head tally.new.head tally.new.jobs tally.new.data_sum tally.new.pilot_sum tally.new.places tally.new.values.items) }
+{
+    if lanes.streams != K::width(&tally.head) {
+        return Ok(0);
+    }
+    let run = push_run::<K, B>(&mut tally.values, &tally.head, block, at, lanes, first)?;
+    if run.jobs > 0 {
+        tally.places.add(
+            run.place,
+            usize::from(run.jobs) * usize::from(lanes.streams),
+        )?;
+        tally.jobs += run.jobs;
+        tally.data_sum += u128::from(run.distance);
+    }
+    Ok(run.jobs)
+}
+
+// Adds the job of a block that has `at` others before it, found by itself, and answers its distance. The only error is lack of
+// memory.
+fn add_alone<K: LabelKind, B: Jobs>(
+    tally: &mut Tally<K>,
+    block: &B,
+    at: u16,
+) -> Result<u128, AllocError>
+    requires within { at < length (B.jobs block.now) }
+    requires few { length (B.jobs block.now) < 2 ^ 16 }
+    requires is { HasFirst K.plan (B.jobs block.now) at tally.old.head tally.old.head tally.old.jobs tally.old.data_sum tally.old.pilot_sum tally.old.places
+        tally.old.values.items }
+    ensures { OnOk result (HasFirst K.plan (B.jobs block.now)
+        (at + 1) tally.old.head tally.new.head tally.new.jobs tally.new.data_sum tally.new.pilot_sum tally.new.places tally.new.values.items) }
+{
+    let job = block.job(at);
+    tally.add(&job, &OpenGate)
+}
+
+// What was added of eight jobs: the number of lanes, 1 or more, and the squared distance of the last job.
+#[derive(Clone, Copy)]
+struct Added {
+    lanes: u16,
+    distance: u128,
+}
+
+// Adds the next of eight jobs of a block, from the lane k on: a run that lanes found, or where there is none, one job by itself.
+#[inline(always)]
+fn add_next<K: LabelKind, B: Jobs>(
+    tally: &mut Tally<K>,
+    block: &B,
+    at: u16,
+    lanes: &Labelled,
+    k: u16,
+) -> Result<Added, AllocError>
+    requires lane { k < 8 }
+    requires within { at + 8 ≤ length (B.jobs block.now) }
+    requires few { length (B.jobs block.now) < 2 ^ 16 }
+    requires some { 1 ≤ lanes.now.streams }
+    requires most { lanes.now.streams ≤ 4 }
+    requires labels { AreLabelledFrom (label_at (K.modulation_in tally.old.head)) (B.jobs block.now) at lanes.now }
+    requires is { HasFirst K.plan (B.jobs block.now)
+        (at + k) tally.old.head tally.old.head tally.old.jobs tally.old.data_sum tally.old.pilot_sum tally.old.places tally.old.values.items }
+    ensures some { IfOk result (λ added. 1 ≤ added.lanes) }
+    ensures within { IfOk result (λ added. k + added.lanes ≤ 8) }
+    ensures is { IfOk result (λ added. HasFirst K.plan (B.jobs block.now)
+        (at + k + added.lanes) tally.old.head tally.new.head tally.new.jobs tally.new.data_sum tally.new.pilot_sum tally.new.places tally.new.values.items) }
+{
+    let jobs = add_run(tally, block, at, lanes, k)?;
+    if jobs == 0 {
+        let distance = add_alone(tally, block, at + k)?;
+        return Ok(Added { lanes: 1, distance });
+    }
+    let distance = u128::from(distance_in(lanes, k + jobs - 1));
+    Ok(Added {
+        lanes: jobs,
+        distance,
+    })
+}
+
+// Adds the last jobs of eight, from the lane `first` on: those of a block from the one on that has `at` others before it. It
+// answers the distance of the last one.
+fn add_lanes<K: LabelKind, B: InLanes>(
+    tally: &mut Tally<K>,
+    block: &B,
+    at: u16,
+    first: u16,
+) -> Result<u128, AllocError>
+    requires first { first < 8 }
+    requires within { at + 8 ≤ length (B.jobs block.now) }
+    requires few { length (B.jobs block.now) < 2 ^ 16 }
+    requires is { HasFirst K.plan (B.jobs block.now)
+        (at + first) tally.old.head tally.old.head tally.old.jobs tally.old.data_sum tally.old.pilot_sum tally.old.places tally.old.values.items }
+    ensures { OnOk result (HasFirst K.plan (B.jobs block.now)
+        (at + 8) tally.old.head tally.new.head tally.new.jobs tally.new.data_sum tally.new.pilot_sum tally.new.places tally.new.values.items) }
+{
+    let lanes = lanes_from(K::modulation(&tally.head), block, at);
+    let mut distance = 0;
+    let mut k = first;
+    while k < 8 {
+        let added = add_next(tally, block, at, &lanes, k)?;
+        k += added.lanes;
+        distance = added.distance;
+    }
+    Ok(distance)
+}
+
+// Adds all jobs of a block that has fewer than eight, each by itself, and answers the distance of the last one.
+fn add_each<K: LabelKind, B: Jobs>(
+    tally: &mut Tally<K>,
+    block: &B,
+    size: u16,
+) -> Result<u128, AllocError>
+    requires size { size ≡ length (B.jobs block.now) }
+    requires is { HasFirst K.plan (B.jobs block.now) 0 tally.old.head tally.old.head tally.old.jobs tally.old.data_sum tally.old.pilot_sum tally.old.places
+        tally.old.values.items }
+    ensures { OnOk result (HasFirst K.plan (B.jobs block.now) size tally.old.head tally.new.head tally.new.jobs tally.new.data_sum tally.new.pilot_sum
+        tally.new.places tally.new.values.items) }
+{
+    let mut distance = 0;
+    for at in 0..size {
+        distance = add_alone(tally, block, at)?;
+    }
+    Ok(distance)
+}
+
+// Adds the jobs of a block behind its eights, the last of which has this distance, and answers that of the last job. Where the
+// block has eight jobs, the last eight are taken once more, of which the first ones were added before.
+fn add_rest<K: LabelKind, B: InLanes>(
+    tally: &mut Tally<K>,
+    block: &B,
+    size: u16,
+    distance: u128,
+) -> Result<u128, AllocError>
+    requires size { size ≡ length (B.jobs block.now) }
+    requires is { HasFirst K.plan (B.jobs block.now)
+        (8 * (size / 8)) tally.old.head tally.old.head tally.old.jobs tally.old.data_sum tally.old.pilot_sum tally.old.places tally.old.values.items }
+    ensures { OnOk result (HasFirst K.plan (B.jobs block.now) size tally.old.head tally.new.head tally.new.jobs tally.new.data_sum tally.new.pilot_sum
+        tally.new.places tally.new.values.items) }
+{
+    let rest = size % 8;
+    if rest == 0 {
+        return Ok(distance);
+    }
+    if size < 8 {
+        return add_each(tally, block, size);
+    }
+    add_lanes(tally, block, size - 8, 8 - rest)
+}
+
+// What the jobs of a block come to, which are of a frame with this head. The only error is lack of memory. It stays out of line,
+// so that what it needs costs nothing where jobs are found by themselves.
+#[inline(never)]
+fn tally_in_lanes<K: LabelKind, B: InLanes>(
+    alloc: Global,
+    head: &K::Head,
+    block: &B,
+) -> Result<Tally<K>, AllocError>
+    requires few { length (B.jobs block.now) < 2 ^ 16 }
+    ensures { IfOk result (λ t. IsTally K.plan t.head (B.jobs block.now) t.jobs t.data_sum t.pilot_sum t.places t.values.items) }
+{
+    let size = block.size();
+    let mut tally = Tally::none(alloc, head, size)?;
+    let mut distance = 0;
+    for eight in 0..size / 8 {
+        distance = add_lanes(&mut tally, block, 8 * eight, 0)?;
+    }
+    distance = add_rest(&mut tally, block, size, distance)?;
+    tally.hard = size > 0 && is_hard(&block.job(size - 1), distance);
+    Ok(tally)
+}

@@ -1,0 +1,12 @@
+//! Tallies of blocks whose jobs are found eight at a time, for each kind of frames of which labels are kept.
+//!
+//! [`LaneWork`] makes the tally of a block that says the labels of eight jobs at once (`InLanes` of crate
+//! `ht_capture_blocks`): runs of jobs on data subcarriers go to it as a whole, and pilots, and jobs of which lanes say
+//! nothing, one by one. A [`LabelKind`] says what labels are kept.
+#![tactic(auto)]
+
+mod in_lanes;
+mod label_kind;
+
+pub use in_lanes::LaneWork;
+pub use label_kind::LabelKind;
