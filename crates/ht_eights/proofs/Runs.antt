@@ -19,10 +19,10 @@ use Rattle.ht_rate.specs.declared.kinds.Carrier.{Carrier}
 use Rattle.ht_rate.specs.declared.kinds.Carrier.TheVariants.{Data}
 use Rattle.ht_results.specs.Folding.{label_at}
 use Rattle.ht_results.specs.Plans.{Plan, distances, is_data, on_data_by, place_by}
-use Rattle.ht_rounding.specs.Labels.{IsLabelled, labels_in}
+use Rattle.ht_rounding.specs.Labels.{IsLabelled, IsLabelledIn, labels_in}
 use Rattle.ht_rounding.specs.Loading.{no_job}
 use Rattle.ht_rounding.specs.declared.eight.Labelled.{Labelled}
-use Rattle.ht_eights.specs.InLanes.{HasFirst, IsLabelledAt, jobs_behind, lane_labels}
+use Rattle.ht_eights.specs.InLanes.{HasFirst, jobs_behind, lane_labels}
 use Rattle.ht_eights.proofs.Eights.{as_many}
 
 -- the labels of one more lane
@@ -115,7 +115,7 @@ module _ {H : Type 0} (plan : Plan H ℕ) (head : H) where
       → lanes.streams ≡ plan.width head → lanes.streams ≤ 4 → k ≡ first + c → i ≡ n + c → i < length jobs → e ≡ slice_index lanes.distance k → e ≤ 2 ^ 66
       → 0 < slice_index lanes.sure k → place.symbol ≡ symbol → plan.kind head place.carrier ≡ Data (m + c)
       → IfSome (slice_get jobs i) (λ job. job.place ≡ place)
-      → IsLabelledAt (label_at (m_of)) jobs i lanes k
+      → IsLabelledIn (label_at (m_of)) lanes k (slice_get jobs i)
       → IsTally plan head (jobs_behind jobs n c) c d 0 (range_with_len (place_by plan head symbol m) (c * lanes.streams))
       (lane_labels lanes first c)
       → IsTally plan head (jobs_behind jobs n (c + 1)) (c + 1) (d + e) 0 (range_with_len (place_by plan head symbol m) ((c + 1) * lanes.streams))

@@ -1,20 +1,11 @@
 -- Jobs of a block that are found together.
-use Rattle.std.specs.Prelude.{◌≡◌, ℕ, ◌+◌, ◌<◌, List, drop, length, take, slice_get, slice_index, IfSome}
+use Rattle.std.specs.Prelude.{◌≡◌, ℕ, List, drop, length, take}
 use Rattle.std.specs.List.{flat_map, range_with_len}
 use Rattle.ht_metric.specs.Jobs.{JobView}
-use Rattle.ht_pam.specs.declared.point.Point.{Point}
 use Rattle.ht_frames.specs.Tallies.{IsTally}
 use Rattle.ht_results.specs.Plans.{Plan}
 use Rattle.ht_rounding.specs.declared.eight.Labelled.{Labelled}
-use Rattle.ht_rounding.specs.Labels.{IsLabelled, labels_in}
-
--- lane k, where it is sure, has the distance and the labels of the job that has so many others before it
-abbrev pub IsLabelledAt : (Point → ℕ) → List JobView → ℕ → Labelled → ℕ → Type 0
-IsLabelledAt label jobs at lanes k = IfSome (slice_get jobs at) (λ job. 0 < slice_index lanes.sure k → IsLabelled label lanes k job)
-
--- the same of eight jobs, from the one on that has so many others before it
-abbrev pub AreLabelledFrom : (Point → ℕ) → List JobView → ℕ → Labelled → Type 0
-AreLabelledFrom label jobs at lanes = (k : ℕ) → k < 8 → IsLabelledAt label jobs (at + k) lanes k
+use Rattle.ht_rounding.specs.Labels.{labels_in}
 
 -- the labels of so many lanes from one on, lane by lane
 abbrev pub lane_labels : Labelled → ℕ → ℕ → List ℕ

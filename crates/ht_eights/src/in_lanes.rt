@@ -3,10 +3,10 @@ ghost use Rattle.std.specs.Prelude.{◌≡◌, ◌+◌, ◌-◌, ◌*◌, ◌/�
 ghost use Rattle.std.specs.List.{range_with_len};
 ghost use Rattle.ht_metric.specs.Jobs.{JobView};
 ghost use Rattle.ht_rate.specs.declared.kinds.Carrier.TheVariants.{Data};
-ghost use Rattle.ht_rounding.specs.Labels.{labels_in};
+ghost use Rattle.ht_rounding.specs.Labels.{AreLabelledFrom, labels_in};
 ghost use Rattle.ht_frames.specs.Tallies.{IsTally};
 ghost use Rattle.ht_results.specs.Folding.{label_at};
-ghost use Rattle.ht_eights.specs.InLanes.{AreLabelledFrom, HasFirst, jobs_behind, lane_labels};
+ghost use Rattle.ht_eights.specs.InLanes.{HasFirst, jobs_behind, lane_labels};
 
 use crate::label_kind::LabelKind;
 use ht_capture_blocks::InLanes;
