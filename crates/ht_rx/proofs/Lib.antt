@@ -8,3 +8,4 @@ pub mod Writing
 pub mod Texts
 mod Eights
 mod Runs
+mod LaneLines

@@ -11,19 +11,19 @@ use Rattle.ht_text.specs.Lines.{spaced}
 pub behind : (xs ys : List ℕ) (a b x : ℕ) → a + 1 ≡ b → drop a xs ≡ x ∷ ys → drop b xs ≡ ys
 behind xs ys a b x next is = ap (λ (n : ℕ). drop n xs) (sym next) ∙ (sym (drop-drop 1 a xs) ∙ ap (λ (l : List ℕ). drop 1 l) is)
 
--- a part of 21 octets is copied in front of a place, and the last of them are a front
-pub front_put : (end s : ℕ) (xs ys front : List ℕ) → 21 ≤ end → end ≤ length xs → length ys ≡ 21 → s ≤ 21 → drop s ys ≡ front
-    → drop (end - 21 + s) (put_mid (end - 21) (end - (end - 21)) xs ys) ≡ front ++ drop end xs
-front_put end s xs ys front room within len few is =
-    let a = end - 21 in
+-- a part of some octets is copied in front of a place, and the last of them are a text
+pub part_put : (w end s : ℕ) (xs ys text : List ℕ) → w ≤ end → end ≤ length xs → length ys ≡ w → s ≤ w → drop s ys ≡ text
+    → drop (end - w + s) (put_mid (end - w) (end - (end - w)) xs ys) ≡ text ++ drop end xs
+part_put w end s xs ys text room within len few is =
+    let a = end - w in
     let k = end - a in
-    let wide : length (take a xs) ≡ a = length-take-le a xs (omega arith) in
-    let rest : a + k ≡ end = omega arith in
+    let wide : length (take a xs) ≡ a = length-take-le a xs (omega (arith, within)) in
+    let rest : a + k ≡ end = omega (arith, room) in
     sym (drop-drop s a (put_mid a k xs ys))
     ∙ (ap (λ (l : List ℕ). drop s l) (drop_at (take a xs) (ys ++ drop k (drop a xs)) a wide)
-    ∙ (drop-append-le s ys (drop k (drop a xs)) (omega arith)
+    ∙ (drop-append-le s ys (drop k (drop a xs)) (omega (arith, len, few))
     ∙ (ap (λ (l : List ℕ). l ++ drop k (drop a xs)) is
-    ∙ ap (λ (l : List ℕ). front ++ l) (drop-drop k a xs ∙ ap (λ (n : ℕ). drop n xs) rest))))
+    ∙ ap (λ (l : List ℕ). text ++ l) (drop-drop k a xs ∙ ap (λ (n : ℕ). drop n xs) rest))))
 
 -- a level behind its sign, where the digits of this size were written for it
 module _ (sign : ℕ) (rest : List ℕ) where

@@ -3,3 +3,5 @@ pub mod Outcomes
 pub mod Frames
 pub mod Telling
 pub mod InLanes
+pub mod Tables
+pub mod LaneLines

@@ -1,9 +1,13 @@
 //! The lines of the jobs of a block.
 ghost use Rattle.std.specs.Prelude.{◌≡◌, ◌*◌, ◌^◌, ◌<◌, ◌≤◌, drop, length, IfOk};
+ghost use Rattle.ht_capture.specs.Parts.{jobs_of};
 ghost use Rattle.ht_results.specs.JobTexts.{job_lines};
 
 use crate::front::Front;
+use crate::lane_lines::{LANES, Written, write_in_lanes};
+use crate::line_texts::AllTexts;
 use crate::lines::{LINE, write_line};
+use ht_capture_blocks::CaptureBlock;
 use ht_feed::{Answer, Gate, Jobs, Work, is_hard};
 use ht_frames::run_gated;
 use ht_metric::{Found, Job};
@@ -37,40 +41,67 @@ impl Answer for Lines {
     ghost answers = { λ lines jobs. drop lines.start lines.octets.items ≡ job_lines jobs };
 }
 
-/// Makes the lines of any block, each job run between the two calls of a gate. Memory is taken once a block, for lines of
-/// 105 octets, and filled from its end: the last job is run first.
+/// Makes the lines of blocks of a capture. Where the gate is open, jobs are found eight at a time, in lanes (crate
+/// `ht_rounding`); else each by itself, between the two calls of the gate. Memory is taken once a block, for lines of 105 octets,
+/// and filled from its end: the last job is run first.
 #[derive(Drop)]
 pub(crate) struct LineWork<'g, G> {
-    /// Where the memory for the lines comes from.
-    pub(crate) alloc: Global,
-    pub(crate) gate: &'g G,
+    alloc: Global,
+    gate: &'g G,
+    texts: AllTexts,
 }
 
-impl<'g, B: Jobs, G: Gate> Work<B> for LineWork<'g, G> {
+impl<'g, G> LineWork<'g, G> {
+    /// What makes lines, for which `alloc` has memory, where jobs go through a gate. The only error is lack of memory.
+    pub(crate) fn new(alloc: Global, gate: &'g G) -> Result<LineWork<'g, G>, AllocError> {
+        let texts = AllTexts::new(alloc)?;
+        Ok(LineWork { alloc, gate, texts })
+    }
+}
+
+impl<'g, G: Gate> Work<CaptureBlock> for LineWork<'g, G> {
     type Answer = Lines;
 
-    fn answer_to(&self, block: &B) -> Result<Lines, AllocError> {
+    fn answer_to(&self, block: &CaptureBlock) -> Result<Lines, AllocError> {
         let mut octets = zeros(self.alloc, LINE * usize::from(block.size()))?;
-        let (start, hard) = write_lines(&mut octets, block, self.gate);
+        let written = write_block(&mut octets, &self.texts, block, self.gate);
         Ok(Lines {
             octets,
-            start,
-            hard,
+            start: written.start,
+            hard: written.hard,
         })
     }
 
-    /// Whether the last job, which speaks for all, was hard.
-    fn is_hard(&self, _: &B, lines: &Lines) -> bool {
+    /// Whether the last job, which speaks for all, was found by itself, and was hard.
+    fn is_hard(&self, _: &CaptureBlock, lines: &Lines) -> bool {
         lines.hard
     }
 }
 
-// Writes the lines of a block's jobs to the end, and answers where they begin, and whether the last job was hard.
-fn write_lines<B: Jobs, G: Gate>(into: &mut [u8], block: &B, gate: &G) -> (usize, bool)
+// Writes the lines of a block's jobs to the end.
+fn write_block<G: Gate>(
+    into: &mut [u8],
+    texts: &AllTexts,
+    block: &CaptureBlock,
+    gate: &G,
+) -> Written
+    requires few { length (jobs_of block.now.block) < 2 ^ 16 }
+    requires room { LINE * length (jobs_of block.now.block) ≤ length into.old }
+    ensures within { result.start ≤ length into.new }
+    ensures lines { drop result.start into.new ≡ job_lines (jobs_of block.now.block) }
+{
+    if gate.is_open() && block.size() >= LANES {
+        return write_in_lanes(into, texts, block);
+    }
+    write_lines(into, block, gate)
+}
+
+// Writes the lines of a block's jobs to the end, each job found by itself.
+fn write_lines<B: Jobs, G: Gate>(into: &mut [u8], block: &B, gate: &G) -> Written
     requires few { length (B.jobs block.now) < 2 ^ 16 }
     requires room { LINE * length (B.jobs block.now) ≤ length into.old }
-    ensures within { result.0 ≤ length into.new }
-    ensures lines { drop result.0 into.new ≡ job_lines (B.jobs block.now) }
+    ensures within { result.start ≤ length into.new }
+    ensures lines { drop result.start into.new ≡ job_lines (B.jobs block.now) }
 {
     let mut front = Front::of(0, 0);
     let mut start = into.len();
@@ -84,12 +115,12 @@ fn write_lines<B: Jobs, G: Gate>(into: &mut [u8], block: &B, gate: &G) -> (usize
         hard = hard | is_hard_as_last(left + 1 == size, &job, &found);
         start = write_line(into, start, &mut front, job.place(), &found);
     }
-    (start, hard)
+    Written { start, hard }
 }
 
-// Whether this is the last job, and was hard.
+/// Whether this is the last job of a block, and was hard.
 #[inline(always)]
-fn is_hard_as_last(is_last: bool, job: &Job, found: &Found) -> bool {
+pub(crate) fn is_hard_as_last(is_last: bool, job: &Job, found: &Found) -> bool {
     is_last && is_hard(job, found.distance)
 }
 

@@ -77,7 +77,7 @@ fn push_lane(labels: &mut Vec<u8>, lanes: &Labelled, k: usize) -> Result<(), All
 
 // The labels of eight jobs of a block, from the one on that has `at` others before it, in the lanes that are sure.
 #[inline(always)]
-fn lanes_from<B: InLanes>(modulation: Modulation, block: &B, at: u16) -> Labelled
+pub(crate) fn lanes_from<B: InLanes>(modulation: Modulation, block: &B, at: u16) -> Labelled
     requires within { at + 8 ≤ length (B.jobs block.now) }
     ensures some { 1 ≤ result.streams }
     ensures most { result.streams ≤ 4 }
@@ -107,7 +107,7 @@ fn distance_in(lanes: &Labelled, k: u16) -> u64
 
 // Whether a lane is sure.
 #[inline(always)]
-fn is_sure(lanes: &Labelled, k: u16) -> bool
+pub(crate) fn is_sure(lanes: &Labelled, k: u16) -> bool
     requires { k < 8 }
     ensures { result ≡ true → 0 < slice_index lanes.now.sure k }
 {
@@ -253,7 +253,7 @@ fn add_found(tally: &mut Tally<HardLabels>, place: Place, found: &Found) -> Resu
 }
 
 // What is found for a job by itself: the distance alone where it has one vector, as on a pilot.
-fn found_alone(job: &Job) -> Found
+pub(crate) fn found_alone(job: &Job) -> Found
     ensures found { result ≡ near job.now }
     ensures below { result.distance < 2 ^ 66 }
 {

@@ -33,14 +33,18 @@
 #![tactic(auto)]
 
 mod block_lines;
+mod carrier_text;
 mod front;
 mod hard_labels;
 mod in_lanes;
+mod lane_lines;
+mod line_texts;
 mod lines;
 mod lister;
 mod listing;
 mod listing_text;
 mod pieces;
+mod point_text;
 mod receiving;
 mod receiving_text;
 

@@ -35,8 +35,8 @@ pub fn list_jobs_alone<S: Source, K: Sink, G: Gate>(
     ensures { TellsCapture lines_of (S.shown source.old) (S.shown source.new) (K.shown sink.old) (K.shown sink.new) result }
 {
     let reader = CaptureReader::new(alloc)?;
+    let work = LineWork::new(alloc, gate)?;
     let mut lister = Lister::new(sink);
-    let work = LineWork { alloc, gate };
     tell_alone(alloc, reader, no_head(), window, &work, source, &mut lister)
 }
 
@@ -59,8 +59,8 @@ pub fn list_jobs<R: Threads + Wait + Sync, S: Source, K: Sink, G: Gate + Sync>(
         return list_jobs_alone(alloc, window, source, sink, gate);
     }
     let reader = CaptureReader::new(alloc)?;
+    let work = LineWork::new(alloc, gate)?;
     let mut lister = Lister::new(sink);
-    let work = LineWork { alloc, gate };
     tell(
         rt,
         alloc,
