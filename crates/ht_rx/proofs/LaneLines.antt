@@ -32,11 +32,10 @@ use Rattle.ht_results.specs.Folding.{label_at}
 use Rattle.ht_results.specs.JobTexts.{job_line_of, job_lines, levels_of, line_at}
 use Rattle.ht_results.specs.Plans.{is_data}
 use Rattle.ht_results.proofs.Vectors.{grid_good}
-use Rattle.ht_rounding.specs.Labels.{IsLabelled, labels_in}
+use Rattle.ht_rounding.specs.Labels.{AreLabelledFrom, IsLabelled, labels_in}
 use Rattle.ht_rounding.specs.Loading.{no_job}
 use Rattle.ht_rounding.specs.declared.eight.Labelled.{Labelled}
 use Rattle.ht_text.specs.Lines.{spaced}
-use Rattle.ht_rx.specs.InLanes.{AreLabelledFrom}
 use Rattle.ht_rx.specs.LaneLines.{AreLines, HasLabels, found_in}
 use Rattle.ht_rx.proofs.BlockListing.{line_put}
 

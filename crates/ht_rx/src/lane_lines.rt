@@ -8,9 +8,8 @@ ghost use Rattle.ht_rate.specs.Schemes.{bits_of};
 ghost use Rattle.ht_results.specs.Folding.{label_at};
 ghost use Rattle.ht_results.specs.JobTexts.{levels_of, line_at};
 ghost use Rattle.ht_results.specs.Plans.{is_data};
-ghost use Rattle.ht_rounding.specs.Labels.{labels_in};
+ghost use Rattle.ht_rounding.specs.Labels.{AreLabelledFrom, labels_in};
 ghost use Rattle.ht_text.specs.Lines.{spaced};
-ghost use Rattle.ht_rx.specs.InLanes.{AreLabelledFrom};
 ghost use Rattle.ht_rx.specs.LaneLines.{AreLines, HasLabels, found_in};
 
 use crate::block_lines::is_hard_as_last;
