@@ -1,3 +1,4 @@
+mod Answered
 mod CheckLines
 mod Costs
 mod Eights

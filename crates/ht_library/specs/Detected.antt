@@ -7,7 +7,6 @@ use Rattle.ht_metric.specs.declared.found.Found.{Found}
 use Rattle.ht_metric.specs.Rows.{Row, rows_of, legs_of}
 use Rattle.ht_metric.specs.Vectors.{no_point}
 use Rattle.ht_metric.specs.Jobs.{JobView, near}
-use Rattle.ht_rounding.specs.Loading.{no_found}
 use Rattle.ht_library.specs.declared.crossing.MizgaureChannel.{MizgaureChannel}
 use Rattle.ht_library.specs.declared.crossing.MizgaureReceived.{MizgaureReceived}
 use Rattle.ht_library.specs.declared.crossing.MizgaureHit.{MizgaureHit}
@@ -49,22 +48,3 @@ no_hit = record { points = []; low = 0; high = 0 }
 abbrev pub job_at : Rate → List MizgaureChannel → List MizgaureReceived → ℕ → JobView
 job_at rate channels received k =
     job_of rate (slice_index_or channels (k % length channels) no_channel) (slice_index_or received k no_received)
-
--- the first of these hits are those of their samples' jobs
-abbrev pub AreHitsBelow : ℕ → Rate → List MizgaureChannel → List MizgaureReceived → List MizgaureHit → Type 0
-AreHitsBelow count rate channels received hits =
-    (k : ℕ) → k < count → IsHit (near (job_at rate channels received k)) (slice_index_or hits k no_hit)
-
--- eight things were found, those of the jobs of the samples from one on
-abbrev pub AreFoundFrom : ℕ → Rate → List MizgaureChannel → List MizgaureReceived → List Found → Type 0
-AreFoundFrom at rate channels received founds = (k : ℕ) → k < 8 → slice_index_or founds k no_found ≡ near (job_at rate channels received (at + k))
-
--- all of them are
-abbrev pub AreHits : Rate → List MizgaureChannel → List MizgaureReceived → List MizgaureHit → Type 0
-AreHits rate channels received hits = AreHitsBelow (length hits) rate channels received hits
-
--- each of the samples has its hit, and they are those of whole symbols over these channels
-pub record AreSymbols (channels received hits : ℕ) : Type 0 where
-  pub some : 1 ≤ channels
-  pub each : hits ≡ received
-  pub whole : received % channels ≡ 0

@@ -5,5 +5,6 @@ pub mod Framed
 pub mod Legacy
 pub mod Mapped
 pub mod Sizes
+pub mod Symbols
 pub mod Weighed
 pub mod Written

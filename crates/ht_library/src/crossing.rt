@@ -27,6 +27,14 @@ pub struct MizgaureHit {
     pub high: u64,
 }
 
+/// The sum of the squared distances of a symbol's data subcarriers, in 16 octets: it is `low + 2^64 * high`.
+#[repr(C)]
+#[derive(Clone, Copy)]
+pub struct MizgaureDistance {
+    pub low: u64,
+    pub high: u64,
+}
+
 /// Where an input is refused, in 16 octets: the offset of the field at fault, or the input's length where it ends early, and
 /// the number of the fault's kind.
 #[repr(C)]

@@ -1,21 +1,18 @@
 //! The detector: the first nearest vector of a data subcarrier.
-ghost use Rattle.std.specs.Prelude.{◌≡◌, ◌⊎◌, ◌↔◌, ◌+◌, ◌*◌, ◌%◌, ◌<◌, ◌≤◌, length, Ok};
+ghost use Rattle.std.specs.Prelude.{◌≡◌, ◌⊎◌, ◌↔◌, ◌<◌, ◌≤◌, length, Ok};
 ghost use Rattle.ht_rate.specs.Rates.{rate_of, streams_of};
 ghost use Rattle.ht_rate.specs.declared.rates.Rate.{Rate as RateView};
 ghost use Rattle.ht_map.specs.Constellation.{grid_of};
 ghost use Rattle.ht_metric.specs.Jobs.{near};
-ghost use Rattle.ht_library.specs.Detected.{AreFoundFrom, AreHits, AreHitsBelow, AreSymbols, IsHit, job_at, job_of, system_of};
+ghost use Rattle.ht_library.specs.Detected.{IsHit, job_at, job_of, system_of};
 
 use crate::crossing::{MizgaureChannel, MizgaureHit, MizgaureReceived};
-use crate::fault::{BAD_LENGTH, DONE, NO_RATE};
+use crate::fault::{DONE, NO_RATE};
 use ht_feed::detect;
 use ht_map::grid;
-use ht_metric::{Found, Job, Place, Sample, System, Tap, Triangle, Vector};
-use ht_pam::{Grid, Point, Steps};
+use ht_metric::{Found, Job, Place, Sample, System, Tap, Triangle};
+use ht_pam::{Grid, Point};
 use ht_rate::Rate;
-use ht_rounding::find_eight;
-use std::marker::Brand;
-use std::sync::ledger::{Blank, Ledger};
 
 const NO_TAP: Tap = Tap { re: 0, im: 0 };
 
@@ -150,182 +147,4 @@ pub(crate) fn job_at(
     ensures streams { length result.system ≡ streams_of rate.now }
 {
     job_on(rate, grid, &channels[at % channels.len()], &received[at])
-}
-
-// Finds eight samples, from the one on that has `at` others before it.
-#[inline(always)]
-fn find_by<L: Ledger>(
-    rate: &Rate,
-    grid: &Grid,
-    channels: &[MizgaureChannel],
-    received: &[MizgaureReceived],
-    at: usize,
-    founds: &mut [Found],
-    blank: Blank,
-)
-    requires name { blank.name ≡ L.name }
-    requires parts { blank.parts ≡ L.parts }
-    requires some { 0 < blank.parts }
-    requires grid { grid.now ≡ grid_of rate.now }
-    requires channels { 1 ≤ length channels.now }
-    requires within { at + 8 ≤ length received.now }
-    requires founds { length founds.old ≡ 8 }
-    ensures length { length founds.new ≡ 8 }
-    ensures found { AreFoundFrom at rate.now channels.now received.now founds.new }
-{
-    let jobs = [
-        job_at(rate, grid, channels, received, at),
-        job_at(rate, grid, channels, received, at + 1),
-        job_at(rate, grid, channels, received, at + 2),
-        job_at(rate, grid, channels, received, at + 3),
-        job_at(rate, grid, channels, received, at + 4),
-        job_at(rate, grid, channels, received, at + 5),
-        job_at(rate, grid, channels, received, at + 6),
-        job_at(rate, grid, channels, received, at + 7),
-    ];
-    let mut steps = Steps::<L>::new(blank);
-    find_eight(&jobs, founds, &mut steps);
-}
-
-// The same, with the steps of a counter of its own.
-#[inline(always)]
-fn find_from(
-    rate: &Rate,
-    grid: &Grid,
-    channels: &[MizgaureChannel],
-    received: &[MizgaureReceived],
-    at: usize,
-    founds: &mut [Found],
-)
-    requires grid { grid.now ≡ grid_of rate.now }
-    requires channels { 1 ≤ length channels.now }
-    requires within { at + 8 ≤ length received.now }
-    requires founds { length founds.old ≡ 8 }
-    ensures length { length founds.new ≡ 8 }
-    ensures found { AreFoundFrom at rate.now channels.now received.now founds.new }
-{
-    find_by::<Brand>(rate, grid, channels, received, at, founds, Blank::new(1));
-}
-
-// What stands where nothing was found yet.
-fn nothing() -> Found {
-    Found {
-        vector: Vector::new(),
-        distance: 0,
-    }
-}
-
-// Writes the hits of eight samples more, behind those of the samples before.
-#[inline(always)]
-fn put_eight(
-    rate: &Rate,
-    channels: &[MizgaureChannel],
-    received: &[MizgaureReceived],
-    at: usize,
-    founds: &[Found],
-    hits: &mut [MizgaureHit],
-)
-    requires founds { length founds.now ≡ 8 }
-    requires found { AreFoundFrom at rate.now channels.now received.now founds.now }
-    requires within { at + 8 ≤ length hits.old }
-    requires before { AreHitsBelow at rate.now channels.now received.now hits.old }
-    ensures length { length hits.new ≡ length hits.old }
-    ensures hits { AreHitsBelow (at + 8) rate.now channels.now received.now hits.new }
-{
-    for k in 0..8usize {
-        hits[at + k] = hit_of(&founds[k]);
-    }
-}
-
-// Finds the hits of so many times eight samples, eight at a time in lanes.
-fn fill_eights(
-    rate: &Rate,
-    grid: &Grid,
-    channels: &[MizgaureChannel],
-    received: &[MizgaureReceived],
-    eights: usize,
-    hits: &mut [MizgaureHit],
-)
-    requires grid { grid.now ≡ grid_of rate.now }
-    requires some { 1 ≤ length channels.now }
-    requires received { length hits.old ≡ length received.now }
-    requires within { 8 * eights ≤ length received.now }
-    ensures length { length hits.new ≡ length hits.old }
-    ensures hits { AreHitsBelow (8 * eights) rate.now channels.now received.now hits.new }
-{
-    let mut founds = [nothing(); 8];
-    for eight in 0..eights {
-        find_from(rate, grid, channels, received, 8 * eight, &mut founds);
-        put_eight(rate, channels, received, 8 * eight, &founds, hits);
-    }
-}
-
-// Finds the hits of the samples from one on, behind those of the samples before.
-fn fill_rest(
-    rate: &Rate,
-    grid: &Grid,
-    channels: &[MizgaureChannel],
-    received: &[MizgaureReceived],
-    from: usize,
-    hits: &mut [MizgaureHit],
-)
-    requires grid { grid.now ≡ grid_of rate.now }
-    requires some { 1 ≤ length channels.now }
-    requires received { length hits.old ≡ length received.now }
-    requires within { from ≤ length received.now }
-    requires before { AreHitsBelow from rate.now channels.now received.now hits.old }
-    ensures length { length hits.new ≡ length hits.old }
-    ensures hits { AreHits rate.now channels.now received.now hits.new }
-{
-    for k in from..hits.len() {
-        hits[k] = hit(rate, grid, &channels[k % channels.len()], &received[k]);
-    }
-}
-
-// Finds the hits of all samples: of several streams eight at a time, since for one stream the search is faster than lanes.
-fn fill_hits(
-    rate: &Rate,
-    channels: &[MizgaureChannel],
-    received: &[MizgaureReceived],
-    hits: &mut [MizgaureHit],
-)
-    requires some { 1 ≤ length channels.now }
-    requires received { length hits.old ≡ length received.now }
-    ensures length { length hits.new ≡ length hits.old }
-    ensures hits { AreHits rate.now channels.now received.now hits.new }
-{
-    let grid = grid(rate);
-    let eights = if rate.streams() > 1 {
-        hits.len() / 8
-    } else {
-        0
-    };
-    fill_eights(rate, &grid, channels, received, eights, hits);
-    fill_rest(rate, &grid, channels, received, 8 * eights, hits);
-}
-
-/// Does as [`mizgaure_nearest`] for each data subcarrier of any number of symbols, which have the same channels. The samples
-/// and the hits stand symbol by symbol.
-#[unsafe(no_mangle)]
-pub extern "C" fn mizgaure_detect_symbols(
-    bandwidth: u8,
-    mcs: u8,
-    channels: &[MizgaureChannel],
-    received: &[MizgaureReceived],
-    hits: &mut [MizgaureHit],
-) -> u32
-    ensures no_rate { (result ≡ 2) ↔ ((1 < bandwidth) ⊎ (31 < mcs)) }
-    ensures done { (result ≡ 0) ↔ ((bandwidth ≤ 1) × (mcs ≤ 31) × AreSymbols (length channels.now) (length received.now) (length hits.old)) }
-    ensures fault { (result ≡ 0) ⊎ (result ≡ 2) ⊎ (result ≡ 5) }
-    ensures kept { (result ≡ 0 → ⊥) → hits.new ≡ hits.old }
-    ensures value { result ≡ 0 → (rate : RateView) → rate_of bandwidth mcs ≡ Ok rate → AreHits rate channels.now received.now hits.new }
-{
-    let Ok(rate) = Rate::of(bandwidth, mcs) else {
-        return NO_RATE;
-    };
-    if channels.is_empty() || hits.len() != received.len() || received.len() % channels.len() != 0 {
-        return BAD_LENGTH;
-    }
-    fill_hits(&rate, channels, received, hits);
-    DONE
 }

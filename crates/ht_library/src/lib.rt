@@ -21,9 +21,11 @@ mod mapping;
 mod parsing;
 mod sending;
 mod sizes;
+mod symbols;
 mod version;
 mod weights;
 
 pub use crossing::{
-    MizgaureChannel, MizgaureCost, MizgaureFlaw, MizgaureHit, MizgaureReceived, MizgaureRefusal,
+    MizgaureChannel, MizgaureCost, MizgaureDistance, MizgaureFlaw, MizgaureHit, MizgaureReceived,
+    MizgaureRefusal,
 };

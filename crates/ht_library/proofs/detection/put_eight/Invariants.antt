@@ -1,9 +1,0 @@
-use Rattle.std.proofs.Common.{◌≡◌, ◌+◌, length}
-use Rattle.ht_library.specs.Detected.{AreHitsBelow}
-use Rattle.ht_library.proofs.detection.put_eight.Given as goal
-
-abbrev pub invariant-loop-k : goal.invariant-loop-k
-invariant-loop-k l = record {
-  size : length l.hits ≡ length l.fn.hits;
-  done : AreHitsBelow (l.fn.at + l.k) l.rate l.channels l.received l.hits;
-}

@@ -1,0 +1,11 @@
+use Rattle.std.proofs.Common.{◌≡◌, length}
+use Rattle.ht_library.specs.Symbols.{AreAnswered}
+use Rattle.ht_library.proofs.symbols.answer_rest.Given as goal
+
+abbrev pub invariant-loop-at : goal.invariant-loop-at
+invariant-loop-at l = record {
+  hits : length l.hits ≡ length l.fn.hits;
+  labels : length l.labels ≡ length l.fn.labels;
+  sums : length l.sums ≡ length l.fn.sums;
+  done : AreAnswered l.at l.rate l.channels l.received l.hits l.labels l.under_way l.sums;
+}
