@@ -1,6 +1,6 @@
 -- The results that jobs give are those of the octets.
 use Rattle.std.proofs.Common.{◌≡◌, ℕ, ◌≤◌, List, [], Result, MatchResult}
-use Rattle.std.proofs.Common.{refl, sym, ap, ◌∙◌, subst, arith}
+use Rattle.std.proofs.Common.{refl, ap, ◌∙◌, subst, arith}
 use Rattle.std.specs.List.{flat_map}
 use Rattle.std.proofs.Math.Path.{fun_ext}
 use Rattle.ht_io.specs.Devices.{Device}

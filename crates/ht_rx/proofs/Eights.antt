@@ -1,7 +1,7 @@
 -- Eight jobs of a block that are found together.
-use Rattle.std.proofs.Common.{◌≡◌, ℕ, zero, suc, ◌+◌, ◌%◌, ◌<◌, ◌≤◌, List, [], ◌∷◌, ◌++◌, Option, Some, IfSome, length, length-append, take, map, get_or}
+use Rattle.std.proofs.Common.{◌≡◌, ℕ, zero, suc, ◌+◌, ◌%◌, ◌<◌, ◌≤◌, List, [], ◌∷◌, ◌++◌, Option, Some, IfSome, length, length-append, take}
 use Rattle.std.proofs.Common.{slice_get, slice_index, slice_index_or, arith, ap, refl, subst, sym, ◌∙◌}
-use Rattle.ht_metric.specs.Jobs.{JobView, near}
+use Rattle.ht_metric.specs.Jobs.{JobView}
 use Rattle.ht_pam.specs.declared.point.Point.{Point}
 use Rattle.ht_capture.specs.declared.items.FrameHead.{FrameHead}
 use Rattle.ht_frames.specs.Tallies.{IsTally}

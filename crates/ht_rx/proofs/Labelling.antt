@@ -1,5 +1,5 @@
 -- Heads of one rate say the same of their jobs, and what labels are decoded to is the result.
-use Rattle.std.proofs.Common.{◌≡◌, ℕ, List, map, ap}
+use Rattle.std.proofs.Common.{◌≡◌, ℕ, map, ap}
 use Rattle.ht_rate.specs.declared.rates.Rate.{Rate}
 use Rattle.ht_rate.specs.Rates.{data_carriers_of, modulation_of, streams_of}
 use Rattle.ht_metric.specs.Jobs.{JobView, near}

@@ -1,5 +1,5 @@
 -- What lanes say of jobs on data subcarriers is what is found for them.
-use Rattle.std.proofs.Common.{◌≡◌, ℕ, zero, suc, ◌+◌, ◌*◌, ◌%◌, ◌^◌, ◌<◌, ◌≤◌, List, [], ◌∷◌, ◌++◌, Bool, true, false, ◌&&◌, Option, Some, None, IfSome, is_some}
+use Rattle.std.proofs.Common.{◌≡◌, ℕ, zero, suc, ◌+◌, ◌%◌, ◌^◌, ◌<◌, ◌≤◌, List, [], ◌∷◌, ◌++◌, Bool, true, false, Option, Some, None, IfSome, is_some}
 use Rattle.std.proofs.Common.{drop, length, map, take, replicate, slice_get, slice_index, unwrap_or, if◌then◌else◌, nat_lt, get_or}
 use Rattle.std.proofs.Common.{arith, ap, refl, subst, sym, ◌∙◌, append_assoc}
 use Rattle.std.specs.Fmt.{signed_decimal}
@@ -29,14 +29,19 @@ use Rattle.ht_rate.specs.declared.kinds.Carrier.TheVariants.{Data, Pilot}
 use Rattle.ht_rate.specs.declared.kinds.Modulation.{Modulation}
 use Rattle.ht_rate.specs.declared.rates.Rate.{Rate}
 use Rattle.ht_results.specs.Folding.{label_at}
-use Rattle.ht_results.specs.JobTexts.{job_line_of, job_lines, levels_of, line_at}
+use Rattle.ht_results.specs.JobTexts.{job_lines, levels_of, line_at}
 use Rattle.ht_results.specs.Plans.{is_data}
 use Rattle.ht_results.proofs.Vectors.{grid_good}
 use Rattle.ht_rounding.specs.Labels.{AreLabelledFrom, IsLabelled, labels_in}
 use Rattle.ht_rounding.specs.Loading.{no_job}
 use Rattle.ht_rounding.specs.declared.eight.Labelled.{Labelled}
 use Rattle.ht_text.specs.Lines.{spaced}
+<<<<<<< ours
 use Rattle.ht_rx.specs.LaneLines.{AreLines, HasLabels, found_in}
+=======
+use Rattle.ht_rx.specs.InLanes.{AreLabelledFrom}
+use Rattle.ht_rx.specs.LaneLines.{HasLabels, found_in}
+>>>>>>> theirs
 use Rattle.ht_rx.proofs.BlockListing.{line_put}
 
 -- the labels are below a bound

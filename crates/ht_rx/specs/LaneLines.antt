@@ -1,8 +1,7 @@
 -- Lines of jobs that are found in lanes.
-use Rattle.std.specs.Prelude.{◌≡◌, ℕ, ◌+◌, ◌^◌, ◌%◌, ◌<◌, List, drop, map, slice_index}
+use Rattle.std.specs.Prelude.{◌≡◌, ℕ, ◌^◌, ◌%◌, ◌<◌, List, drop, map, slice_index}
 use Rattle.ht_capture.specs.Parts.{SymbolPart, jobs_of}
 use Rattle.ht_map.specs.Gray.{point_of}
-use Rattle.ht_metric.specs.Jobs.{JobView}
 use Rattle.ht_metric.specs.declared.found.Found.{Found}
 use Rattle.ht_rate.specs.Schemes.{bits_of}
 use Rattle.ht_rate.specs.declared.kinds.Modulation.{Modulation}

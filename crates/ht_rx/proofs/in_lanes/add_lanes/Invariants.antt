@@ -1,4 +1,4 @@
-use Rattle.std.proofs.Common.{◌≡◌, ◌+◌, ◌-◌, ◌≤◌}
+use Rattle.std.proofs.Common.{◌+◌, ◌-◌, ◌≤◌}
 use Rattle.ht_rx.specs.InLanes.{HasFirst}
 use Rattle.ht_rx.proofs.in_lanes.add_lanes.Given as goal
 

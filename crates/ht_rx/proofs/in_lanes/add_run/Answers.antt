@@ -1,4 +1,4 @@
-use Rattle.std.proofs.Common.{◌≡◌, ◌∙◌, ◌+◌, ◌*◌, ◌++◌, ℕ, List, ap, refl}
+use Rattle.std.proofs.Common.{◌≡◌, ◌∙◌, ◌+◌, ◌*◌, ◌++◌, ℕ, ap, refl}
 use Rattle.std.specs.List.{range_with_len}
 use Rattle.ht_rx.specs.InLanes.{lane_labels}
 use Rattle.ht_rx.proofs.Runs.{run_added}

@@ -1,4 +1,4 @@
-use Rattle.std.proofs.Common.{◌≡◌, ◌+◌, ◌*◌, ◌≤◌, length}
+use Rattle.std.proofs.Common.{◌*◌, ◌≤◌, length}
 use Rattle.ht_capture.specs.Parts.{jobs_of}
 use Rattle.ht_rx.specs.LaneLines.{AreLines}
 use Rattle.ht_rx.proofs.lane_lines.write_in_lanes.Given as goal

@@ -1,4 +1,4 @@
-use Rattle.std.proofs.Common.{◌≡◌, ◌+◌, ◌*◌, ◌≤◌, length}
+use Rattle.std.proofs.Common.{◌+◌, ◌*◌, ◌≤◌}
 use Rattle.ht_rx.specs.LaneLines.{AreLines}
 use Rattle.ht_rx.proofs.lane_lines.write_lanes.Given as goal
 
