@@ -36,12 +36,7 @@ use Rattle.ht_rounding.specs.Labels.{AreLabelledFrom, IsLabelled, labels_in}
 use Rattle.ht_rounding.specs.Loading.{no_job}
 use Rattle.ht_rounding.specs.declared.eight.Labelled.{Labelled}
 use Rattle.ht_text.specs.Lines.{spaced}
-<<<<<<< ours
-use Rattle.ht_rx.specs.LaneLines.{AreLines, HasLabels, found_in}
-=======
-use Rattle.ht_rx.specs.InLanes.{AreLabelledFrom}
 use Rattle.ht_rx.specs.LaneLines.{HasLabels, found_in}
->>>>>>> theirs
 use Rattle.ht_rx.proofs.BlockListing.{line_put}
 
 -- the labels are below a bound
