@@ -85,9 +85,10 @@ fn push_lane(labels: &mut Vec<u8>, lanes: &Labelled, k: usize) -> Result<(), All
     Ok(())
 }
 
-// The labels of eight jobs of a block, from the one on that has `at` others before it, in the lanes that are sure.
+/// The labels of the first nearest vectors of eight jobs of a block, from the one on that has `at` others before it, with their
+/// squared distances, in the lanes that are sure; no clause says which are (IEEE Std 802.11-2012, clause 20.3.11.9).
 #[inline(always)]
-fn lanes_from<B: InLanes>(modulation: Modulation, block: &B, at: u16) -> Labelled
+pub fn lanes_from<B: InLanes>(modulation: Modulation, block: &B, at: u16) -> Labelled
     requires within { at + 8 ≤ length (B.jobs block.now) }
     ensures some { 1 ≤ result.streams }
     ensures most { result.streams ≤ 4 }
@@ -115,9 +116,9 @@ fn distance_in(lanes: &Labelled, k: u16) -> u64
     u64::from(lanes.distance[usize::from(k)])
 }
 
-// Whether a lane is sure.
+/// Whether the lane k, 0 to 7, is sure.
 #[inline(always)]
-fn is_sure(lanes: &Labelled, k: u16) -> bool
+pub fn is_sure(lanes: &Labelled, k: u16) -> bool
     requires { k < 8 }
     ensures { result ≡ true → 0 < slice_index lanes.now.sure k }
 {

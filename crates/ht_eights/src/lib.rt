@@ -5,8 +5,10 @@
 //! nothing, one by one. A [`LabelKind`] says what labels are kept.
 #![tactic(auto)]
 
+mod found;
 mod in_lanes;
 mod label_kind;
 
-pub use in_lanes::LaneWork;
+pub use found::found_by;
+pub use in_lanes::{LaneWork, is_sure, lanes_from};
 pub use label_kind::LabelKind;

@@ -1,3 +1,4 @@
-pub mod Results
 pub mod Folding
+pub mod Labelling
+pub mod Results
 pub mod Texts

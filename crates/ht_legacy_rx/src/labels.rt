@@ -2,21 +2,19 @@
 ghost use Rattle.std.specs.Prelude.{◌≡◌, ◌^◌, ◌<◌, ◌≤◌, IsTrue};
 ghost use Rattle.ht_clause18.specs.Carriers.{carrier_of};
 ghost use Rattle.ht_clause18.specs.Rates.{modulation_of};
-ghost use Rattle.ht_metric.specs.Jobs.{near};
 ghost use Rattle.ht_legacy_rx.specs.Folding.{IsWithinLimits, with_octets};
 ghost use Rattle.ht_legacy_rx.specs.Results.{first_label, legacy_plan, result_of};
-ghost use Rattle.ht_legacy_rx.proofs.Labelling.{one_label};
+ghost use Rattle.ht_legacy_rx.specs.Labelling.{one_label};
 
 use ht_clause18::{LegacyRate, legacy_carrier};
-use ht_eights::LabelKind;
+use ht_eights::{LabelKind, found_by};
 use ht_feed::Gate;
-use ht_frames::{Kind, Together, run_gated};
+use ht_frames::{Kind, Together};
 use ht_legacy_blocks::LegacyFrameHead;
 use ht_legacy_inverse::legacy_decode_frame;
-use ht_metric::{Found, Job, Vector};
+use ht_metric::{Job, Vector};
 use ht_rate::{Carrier, Modulation};
 use ht_results::{FrameResult, label_for, same_labels};
-use ht_rounding::find_only;
 use std::alloc::{AllocError, Global};
 
 /// The most octets of a frame.
@@ -42,21 +40,6 @@ fn kind(carrier: u8) -> Carrier
     } else {
         Carrier::Data(carrier - 4)
     }
-}
-
-// What is found for a job between the two calls of a gate: at once where neither does anything and the job has one vector, as
-// on a pilot.
-#[inline(always)]
-fn found_by<G: Gate>(gate: &G, job: &Job) -> Found
-    ensures found { result ≡ near job.now }
-    ensures below { result.distance < 2 ^ 66 }
-{
-    if gate.is_open() {
-        if let Some(found) = find_only(job) {
-            return found;
-        }
-    }
-    run_gated(gate, job)
 }
 
 // The label of the one stream of a vector.

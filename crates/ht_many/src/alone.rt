@@ -12,10 +12,11 @@ use crate::capture_lane::{CaptureLane, open_lanes};
 use crate::ending::end_all;
 use crate::many_end::ManyEnd;
 use ht_bundles::Bundled;
+use ht_eights::LaneWork;
 use ht_feed::Gate;
 use ht_io::{GrowSink, Sink, Source};
 use ht_lanes::drive_lanes_alone;
-use ht_rx::LaneWork;
+use ht_rx::HardLabels;
 use std::alloc::{AllocError, Global};
 
 /// This thread receives captures, and runs every job between the two calls of the gate. At most `window` jobs are due at a
@@ -51,11 +52,8 @@ impl<'g, G: Gate> Alone<'g, G> {
         requires { AreOpen lanes.old sources.old sinks.old }
         ensures { ReceivesEach S.shown K.shown result (devices sources.old sinks.old) (devices sources.new sinks.new) }
     {
-        let work = LaneWork {
-            alloc: self.alloc,
-            gate: self.gate,
-        };
-        match drive_lanes_alone::<CaptureLane, S, K, LaneWork<G>>(
+        let work = LaneWork::<HardLabels, G>::new(self.alloc, self.gate);
+        match drive_lanes_alone::<CaptureLane, S, K, LaneWork<HardLabels, G>>(
             self.alloc,
             self.window,
             &work,

@@ -17,11 +17,12 @@ use crate::many_end::ManyEnd;
 use circular_buffer::HeapCircularBuffer;
 use ht_bundles::Bundled;
 use ht_drive::drive;
+use ht_eights::LaneWork;
 use ht_feed::{Gate, Shared, Work};
 use ht_frames::{BesideFrames, Frames, Whole};
 use ht_io::{GrowSink, Sink, Source};
 use ht_lanes::{Lane, LaneBlock, Lanes, finish_lanes};
-use ht_rx::{HardLabels, LaneWork};
+use ht_rx::HardLabels;
 use std::alloc::{AllocError, Global};
 use std::sync::Wait;
 use std::thread::Threads;
@@ -115,13 +116,16 @@ impl<'c, R: Threads + Wait + Sync, G: Gate + Sync> Crew<'c, R, G> {
         ensures { ReceivesEach S.shown K.shown result (devices sources.old sinks.old) (devices sources.new sinks.new) }
     {
         let work = BesideFrames {
-            work: LaneWork {
-                alloc: self.alloc,
-                gate: self.gate,
-            },
+            work: LaneWork::<HardLabels, G>::new(self.alloc, self.gate),
             frames,
         };
-        match drive_lanes::<R, CrewLane<R>, S, K, BesideFrames<LaneWork<G>, Whole<HardLabels>>>(
+        match drive_lanes::<
+            R,
+            CrewLane<R>,
+            S,
+            K,
+            BesideFrames<LaneWork<HardLabels, G>, Whole<HardLabels>>,
+        >(
             self.rt,
             self.alloc,
             self.workers,

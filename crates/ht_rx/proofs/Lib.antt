@@ -6,6 +6,4 @@ pub mod BlockListing
 pub mod Labelling
 pub mod Writing
 pub mod Texts
-mod Eights
-mod Runs
 mod LaneLines

@@ -1,11 +1,13 @@
 //! Frames of captures, of which labels are kept.
-ghost use Rattle.std.specs.Prelude.{◌≡◌, ◌≤◌, ◌++◌, map, length, IfOk, OnOk};
+ghost use Rattle.std.specs.Prelude.{◌≡◌, ◌≤◌, ◌++◌, map, length, refl, IfOk, OnOk};
+ghost use Rattle.ht_rate.specs.Rates.{modulation_of};
 ghost use Rattle.ht_inverse.specs.Received.{labels_in_frame};
 ghost use Rattle.ht_results.specs.Folding.{label_at, label_plan, result_of, with_octets};
 
 use ht_capture::FrameHead;
+use ht_eights::{LabelKind, found_by};
 use ht_feed::Gate;
-use ht_frames::{Kind, Together, run_gated};
+use ht_frames::{Kind, Together};
 use ht_inverse::{Alone, Decoder, Together as TwoThreads};
 use ht_metric::{Job, Vector};
 use ht_rate::{Carrier, Modulation};
@@ -20,7 +22,7 @@ pub struct HardLabels;
 
 // Puts the labels of a vector's points behind others, stream by stream.
 #[inline(always)]
-pub(crate) fn push_labels(
+fn push_labels(
     labels: &mut Vec<u8>,
     modulation: Modulation,
     vector: &Vector,
@@ -133,7 +135,7 @@ impl Kind for HardLabels {
         gate: &G,
         values: &mut Vec<u8>,
     ) -> Result<u128, AllocError> {
-        let found = run_gated(gate, job);
+        let found = found_by(gate, job);
         match carrier {
             Carrier::Data(_) => push_labels(values, head.rate.modulation(), &found.vector)?,
             Carrier::Pilot(_) => {}
@@ -155,6 +157,16 @@ impl Kind for HardLabels {
     ) -> Result<FrameResult, AllocError> {
         result_by(alloc, head, data_sum, pilot_sum, kept, decoder)
     }
+}
+
+impl LabelKind for HardLabels {
+    ghost modulation_in = { λ head. modulation_of head.rate };
+
+    fn modulation(head: &FrameHead) -> Modulation {
+        head.rate.modulation()
+    }
+
+    ghost labels = { λ head job as_many. refl };
 }
 
 impl Together for HardLabels {

@@ -14,12 +14,12 @@ ghost use Rattle.ht_rx.specs.LaneLines.{AreLines, HasLabels, found_in};
 
 use crate::block_lines::is_hard_as_last;
 use crate::front::Front;
-use crate::in_lanes::{found_alone, is_sure, lanes_from};
 use crate::line_texts::{AllTexts, Texts};
 use crate::lines::{LINE, write_line};
 use crate::pieces::write_octet;
 use ht_capture_blocks::CaptureBlock;
-use ht_feed::{InFrame, Jobs};
+use ht_eights::{found_by, is_sure, lanes_from};
+use ht_feed::{InFrame, Jobs, OpenGate};
 use ht_metric::Place;
 use ht_rate::{Carrier, Rate};
 use ht_rounding::Labelled;
@@ -130,7 +130,7 @@ fn write_alone(
     ensures lines { AreLines block.now.block at result.start into.new }
 {
     let job = block.job(at);
-    let found = found_alone(&job);
+    let found = found_by(&OpenGate, &job);
     let start = write_line(into, end, front, job.place(), &found);
     let hard = is_hard_as_last(at + 1 == block.size(), &job, &found);
     Written { start, hard }

@@ -10,7 +10,8 @@
 //! A drive of crate `ht_drive` takes blocks of jobs from a capture's reader, and hands the answers in order to a consumer
 //! (`Consumer` of crate `ht_feed`): a [`Lister`] puts the lines of each block; the receivers of crate `ht_frames` book a
 //! [`FrameResult`] once the tally with the last job of its frame came. [`HardLabels`] says what they keep of a job, its labels,
-//! and how these are decoded; a tally has the labels of a block's jobs, with the distances summed. [`LaneWork`] makes tallies.
+//! and how these are decoded; a tally has the labels of a block's jobs, with the distances summed. `LaneWork` of crate
+//! `ht_eights` makes tallies.
 //!
 //! Crate `ht_results` defines what must be put, over the octets alone: `lines_of`, and with the last line `detect_text`, in
 //! `specs/JobTexts.antt`; `frame_lines_of` and `rx_text` in `specs/Texts.antt`. What a consumer puts is a function of the jobs
@@ -36,7 +37,6 @@ mod block_lines;
 mod carrier_text;
 mod front;
 mod hard_labels;
-mod in_lanes;
 mod lane_lines;
 mod line_texts;
 mod lines;
@@ -52,7 +52,6 @@ pub use block_lines::Lines;
 pub use hard_labels::HardLabels;
 pub use ht_feed::{BookFault, Ended};
 pub use ht_results::FrameResult;
-pub use in_lanes::LaneWork;
 pub use lister::Lister;
 pub use listing::{list_jobs, list_jobs_alone};
 pub use listing_text::{list_text, list_text_alone};

@@ -5,8 +5,8 @@ ghost use Rattle.ht_rx.specs.Frames.{booked_of};
 ghost use Rattle.ht_rx.specs.Telling.{TellsCapture};
 
 use crate::hard_labels::HardLabels;
-use crate::in_lanes::LaneWork;
 use ht_capture_blocks::CaptureReader;
+use ht_eights::LaneWork;
 use ht_feed::{Ended, Gate};
 use ht_frames::{BesideFrames, Book, Frame, Frames};
 use ht_io::Source;
@@ -40,7 +40,7 @@ pub fn receive_alone<S: Source, B: Book<FrameResult>, G: Gate>(
     let reader = CaptureReader::new(alloc)?;
     let head = no_head();
     let under_way = Frame::<HardLabels>::new(alloc);
-    let work = LaneWork { alloc, gate };
+    let work = LaneWork::<HardLabels, G>::new(alloc, gate);
     ht_receive::receive_alone(alloc, reader, head, window, &work, source, under_way, book)
 }
 
@@ -74,7 +74,7 @@ pub fn receive<R: Threads + Wait + Sync, S: Source, B: Book<FrameResult>, G: Gat
     let under_way = Frame::<HardLabels>::new(alloc);
     let frames = Frames::new(alloc);
     let work = BesideFrames {
-        work: LaneWork { alloc, gate },
+        work: LaneWork::<HardLabels, G>::new(alloc, gate),
         frames: &frames,
     };
     ht_receive::receive(

@@ -1,7 +1,0 @@
-use Rattle.ht_rx.specs.InLanes.{HasFirst}
-use Rattle.ht_rx.proofs.in_lanes.add_each.Given as goal
-
--- the jobs so far were added
-abbrev pub invariant-loop-at : goal.invariant-loop-at
-invariant-loop-at g l = HasFirst (g.B.Jobs.jobs l.fn.block) l.at l.fn.tally.head l.tally.head l.tally.jobs l.tally.data_sum l.tally.pilot_sum l.tally.places
-    l.tally.values.items
