@@ -48,7 +48,7 @@ fn fill_weights(
 
 /// The weights of the label bits of any number of symbols' data subcarriers, in the order symbol, subcarrier, stream, bit: the
 /// least distance where the bit is 0 less the least one where it is 1, cut to 17 bits. Samples meet channels as in
-/// [`mizgaure_detect_symbols`](crate::detection::mizgaure_detect_symbols).
+/// [`mizgaure_detect_symbols`](crate::symbols::mizgaure_detect_symbols).
 #[unsafe(no_mangle)]
 pub extern "C" fn mizgaure_weigh_symbols(
     bandwidth: u8,
