@@ -1,7 +1,7 @@
 /* The library's side of `bench/library`, in C.
  *
  *   library detect STREAMS MODULATION NOISE DIAGONALS COUNT    the jobs of `ht_bench nearest` with these words, COUNT * 29 times all
- *                                                              256 of them, 29 times in a call (65 symbols of 114 subcarriers);
+ *                                                              256 of them, 29 times in a call, as 29 symbols of 256 subcarriers;
  *                                                              prints the same checksum
  *   library silent STREAMS MODULATION NOISE DIAGONALS COUNT    the same without the checksum, which is 0
  *   library labels STREAMS MODULATION NOISE COUNT    the jobs of a line `octets` with these words, COUNT * 64 times all 256 of them, 64

@@ -90,8 +90,8 @@ typedef struct { mizgaure_sample samples[4]; } mizgaure_received;
  * low + 2^64 * high and below 2^66. Nothing is scaled: without noise y is R x, at distance 0. */
 typedef struct { mizgaure_point points[4]; uint64_t low, high; } mizgaure_hit;
 
-/* The vector of a data subcarrier that is nearest to what was received. Of several as near it is the first one: on the lowest stream
- * where they differ, the one with the lower I, and at equal I the one with the lower Q. NO_RATE. */
+/* Clause 20.3.11.9 backwards: the vector of a data subcarrier that is nearest to what was received. Of several as near it is the
+ * first one: on the lowest stream where they differ, the one with the lower I, and at equal I the one with the lower Q. NO_RATE. */
 uint32_t mizgaure_nearest(uint8_t bandwidth, uint8_t mcs, const mizgaure_channel *channel, const mizgaure_received *received,
                           mizgaure_hit *found);
 
@@ -110,15 +110,16 @@ uint32_t mizgaure_detect_symbols(uint8_t bandwidth, uint8_t mcs, const mizgaure_
                                  const mizgaure_received *received, size_t received_n, mizgaure_hit *hits, size_t hits_n,
                                  uint8_t *labels, size_t labels_n, mizgaure_distance *sums, size_t sums_n);
 
-/* The weights of the label bits of such symbols, in the order symbol, subcarrier, stream, bit (the order of mizgaure_soft_frame): the
- * least squared distance where the bit is 0 less the least one where it is 1, cut to -65535 to 65535; so positive where a 1 is
- * likelier. NO_RATE; BAD_LENGTH unless channels_n > 0, received_n is a multiple of channels_n, and n is received_n * N_SS * N_BPSCS. */
+/* Clause 20.3.11.9 backwards: the weights of the label bits of such symbols, in the order symbol, subcarrier, stream, bit (the order
+ * of mizgaure_soft_frame): the least squared distance where the bit is 0 less the least one where it is 1, cut to -65535 to 65535; so
+ * positive where a 1 is likelier. NO_RATE; BAD_LENGTH unless channels_n > 0, received_n is a multiple of channels_n, and n is
+ * received_n * N_SS * N_BPSCS. */
 uint32_t mizgaure_weigh_symbols(uint8_t bandwidth, uint8_t mcs, const mizgaure_channel *channels, size_t channels_n,
                                 const mizgaure_received *received, size_t received_n, int32_t *weights, size_t n);
 
-/* The certificate of a data subcarrier (docs/CERTIFICATES.md): its hit, and the marks of a walk that shows that no vector is nearer,
- * true where a level is open. They stand at the front of `marks`, and *size is how many there are, at MIZGAURE_NO_ROOM too. NO_RATE;
- * NO_MEMORY; NO_ROOM where there are more than marks_n. */
+/* Clause 20.3.11.9 backwards: the certificate of a data subcarrier (docs/CERTIFICATES.md): its hit, and the marks of a walk that
+ * shows that no vector is nearer, true where a level is open. They stand at the front of `marks`, and *size is how many there are, at
+ * MIZGAURE_NO_ROOM too. NO_RATE; NO_MEMORY; NO_ROOM where there are more than marks_n. */
 uint32_t mizgaure_certify_job(uint8_t bandwidth, uint8_t mcs, const mizgaure_channel *channel, const mizgaure_received *received,
                               mizgaure_hit *found, bool *marks, size_t marks_n, uint64_t *size);
 
@@ -126,8 +127,8 @@ uint32_t mizgaure_certify_job(uint8_t bandwidth, uint8_t mcs, const mizgaure_cha
  * 1 OffGrid, the stream; 2 WrongDistance, the distance that the points have; 3 Early, 4 Better, 5 Short and 6 Long, the mark. */
 typedef struct { uint64_t low, high; uint32_t kind; } mizgaure_flaw;
 
-/* Checks a certificate without a search, whoever made it: the hit is the first nearest vector with its distance if this is DONE. The
- * first N_SS points of the hit count. NO_RATE; NO_MEMORY; NOT_CERTIFIED, and the first flaw is said. */
+/* Clause 20.3.11.9 backwards: checks a certificate without a search, whoever made it: the hit is the first nearest vector with its
+ * distance if this is DONE. The first N_SS points of the hit count. NO_RATE; NO_MEMORY; NOT_CERTIFIED, and the first flaw is said. */
 uint32_t mizgaure_check_job(uint8_t bandwidth, uint8_t mcs, const mizgaure_channel *channel, const mizgaure_received *received,
                             const mizgaure_hit *hit, const bool *marks, size_t marks_n, mizgaure_flaw *flaw);
 
@@ -196,15 +197,16 @@ uint32_t mizgaure_pilots(uint8_t bandwidth, uint8_t mcs, uint32_t symbol, uint8_
 /* -- Frames --------------------------------------------------------------------------------------------------------------- */
 
 /* Clause 20.3.11: the points that are sent for a PSDU of 1 to 65535 octets, N_SYM * N_ST * N_SS of them, in the order symbol,
- * subcarrier (pilots too), stream. A pilot's value v is the point (v, 0). NO_RATE; NO_SEED; BAD_LENGTH; NO_MEMORY. */
+ * subcarrier (pilots too), stream. A pilot's value v is the point (v, 0). NO_RATE; NO_SEED; BAD_LENGTH unless n is 1 to 65535 and
+ * points_n is that number; NO_MEMORY. */
 uint32_t mizgaure_transmit(uint8_t bandwidth, uint8_t mcs, uint8_t seed, const uint8_t *octets, size_t n, mizgaure_point *points,
                            size_t points_n);
 
 /* Clauses 20.3.11.2 to 20.3.11.6 backwards: the labels of a frame to the octets of its PSDU by hard decisions, and at how many
  * places that aren't erased the coded bits of the answer differ. The labels are N_SYM * N_SD * N_SS octets in the order symbol,
  * data subcarrier, stream; bits of an octet above the label's count for nothing. Bit c of erased_low + 2^64 * erased_high is set
- * where subcarrier c (pilots count) is erased. The PSDU has octets_n octets, 1 to 65535. NO_RATE; BAD_LENGTH; NO_MEMORY; NO_SEED
- * where the bits of SERVICE give no seed. */
+ * where subcarrier c (pilots count) is erased. The PSDU has octets_n octets. NO_RATE; BAD_LENGTH unless octets_n is 1 to 65535 and n is
+ * that number of labels; NO_MEMORY; NO_SEED where the bits of SERVICE give no seed. */
 uint32_t mizgaure_decode_frame(uint8_t bandwidth, uint8_t mcs, uint64_t erased_low, uint64_t erased_high, const uint8_t *labels,
                                size_t n, uint8_t *octets, size_t octets_n, uint32_t *differences);
 
@@ -222,21 +224,23 @@ uint32_t mizgaure_soft_frame(uint8_t bandwidth, uint8_t mcs, uint64_t erased_low
  * N_CBPS = 48 * N_BPSC. A PSDU of n octets takes N_SYM = (22 + 8 * n) / N_DBPS symbols, rounded up. */
 
 /* Clause 18.3.5: the points that are sent for a PSDU of 1 to 4095 octets, N_SYM * 52 of them, in the order symbol, subcarrier. NO_RATE;
- * NO_SEED; BAD_LENGTH; NO_MEMORY. */
+ * NO_SEED; BAD_LENGTH unless n is 1 to 4095 and points_n is that number; NO_MEMORY. */
 uint32_t mizgaure_legacy_transmit(uint8_t rate, uint8_t seed, const uint8_t *octets, size_t n, mizgaure_point *points,
                                   size_t points_n);
 
 /* Clauses 18.3.5.2 to 18.3.5.8 backwards: the labels of a frame, N_SYM * 48 octets in the order symbol, data subcarrier, to the octets
  * of its PSDU by hard decisions, and at how many places the coded bits of the answer differ. Bits of a label above its own count for
- * nothing. The PSDU has octets_n octets, 1 to 4095. NO_RATE; BAD_LENGTH; NO_MEMORY; NO_SEED where the bits of SERVICE give no seed. */
+ * nothing. The PSDU has octets_n octets. NO_RATE; BAD_LENGTH unless octets_n is 1 to 4095 and n is that number of labels; NO_MEMORY;
+ * NO_SEED where the bits of SERVICE give no seed. */
 uint32_t mizgaure_legacy_decode_frame(uint8_t rate, const uint8_t *labels, size_t n, uint8_t *octets, size_t octets_n,
                                       uint32_t *differences);
 
-/* Clause 18.3.5.7: the place behind the interleaver of each of the N_CBPS bits of a symbol, and the inverse. NO_RATE; BAD_LENGTH. */
+/* Clause 18.3.5.7: the place behind the interleaver of each of the N_CBPS bits of a symbol, and the inverse. NO_RATE; BAD_LENGTH
+ * unless n is N_CBPS. */
 uint32_t mizgaure_legacy_places(uint8_t rate, uint16_t *places, size_t n);
 uint32_t mizgaure_legacy_origins(uint8_t rate, uint16_t *origins, size_t n);
 
-/* Clause 18.3.5.9: the values, 1 or -1, of the 4 pilots of a symbol. Symbols count from 0, behind SIGNAL. BAD_LENGTH. */
+/* Clause 18.3.5.9: the values, 1 or -1, of the 4 pilots of a symbol. Symbols count from 0, behind SIGNAL. BAD_LENGTH unless n is 4. */
 uint32_t mizgaure_legacy_pilots(uint32_t symbol, int8_t *values, size_t n);
 
 /* -- Whole inputs --------------------------------------------------------------------------------------------------------- */
@@ -248,7 +252,7 @@ typedef struct { uint64_t offset; uint32_t kind; } mizgaure_refusal;
 
 /* The text of the program's commands detect, rx and soft for a capture (HTCP), of lrx for a capture of clause 18 frames (LGCP), and of
  * many for a bundle of captures (HTMB). It stands at the front of `text`, without a 0 behind it, and *size is its length, at
- * MIZGAURE_NO_ROOM too. REFUSED; NO_ROOM where it is longer than text_n; NO_MEMORY. In memory the input is copied once, and the text
+ * MIZGAURE_NO_ROOM too. NO_MEMORY; REFUSED; NO_ROOM where it is longer than text_n. In memory the input is copied once, and the text
  * stands once more. */
 uint32_t mizgaure_detect(const uint8_t *capture, size_t n, uint8_t *text, size_t text_n, uint64_t *size, mizgaure_refusal *refusal);
 uint32_t mizgaure_rx(const uint8_t *capture, size_t n, uint8_t *text, size_t text_n, uint64_t *size, mizgaure_refusal *refusal);
@@ -256,10 +260,11 @@ uint32_t mizgaure_soft(const uint8_t *capture, size_t n, uint8_t *text, size_t t
 uint32_t mizgaure_lrx(const uint8_t *capture, size_t n, uint8_t *text, size_t text_n, uint64_t *size, mizgaure_refusal *refusal);
 uint32_t mizgaure_many(const uint8_t *bundle, size_t n, uint8_t *text, size_t text_n, uint64_t *size, mizgaure_refusal *refusal);
 
-/* A size of `text` with which these calls never answer NO_ROOM for the capture, so that none is made twice. detect: 6 * n. rx and soft:
- * 32 + n / 2, rounded down, but at a capture of version 2 it is 32 and the less of 17 * n and 131177 for each frame. lrx: 32 + n / 2.
- * many: 17 * n, which suffices where each capture of the bundle is whole. Only the version and the number of frames of a capture are
- * read, so any octets may be given. UINT64_MAX where the size has more than 64 bits, and of rx and soft from 2^59 octets on. */
+/* A size of `text` with which these calls never answer NO_ROOM for a capture of less than 2^59 octets, so that none is made twice.
+ * detect: 6 * n. rx and soft: 32 + n / 2, rounded down, but at a capture of version 2 it is 32 and the less of 17 * n and 131177 for
+ * each frame. lrx: 32 + n / 2. many: 17 * n, which suffices where each capture of the bundle is whole. Only the version and the
+ * number of frames of a capture are read, so any octets may be given. UINT64_MAX where the size has more than 64 bits, and of rx and
+ * soft from 2^59 octets on. */
 uint64_t mizgaure_detect_size(const uint8_t *capture, size_t n);
 uint64_t mizgaure_rx_size(const uint8_t *capture, size_t n);
 uint64_t mizgaure_soft_size(const uint8_t *capture, size_t n);

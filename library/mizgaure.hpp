@@ -251,7 +251,8 @@ inline void legacy_pilots(std::uint32_t symbol, std::span<std::int8_t> values) {
 }
 
 // -- Whole inputs. A call throws `refused` where its input is no file of its format. Those with _into put the text at the front of a span
-// and answer its length, and throw `no_room` where it is longer; those with _size say how long a span always suffices.
+// and answer its length, and throw `no_room` where it is longer; those with _size say how long a span suffices, that of `many` where each capture
+// of the bundle is whole.
 
 using text = std::string;
 using file = std::vector<std::uint8_t>;

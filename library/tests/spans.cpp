@@ -1,4 +1,4 @@
-// The C++ header: each function once, on what the standard or arithmetic says, and each fault as an exception.
+// The C++ header: each function once, on what the standard or arithmetic says, and each fault but NO_MEMORY as an exception.
 #include "mizgaure.hpp"
 
 #include <algorithm>

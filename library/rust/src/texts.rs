@@ -2,7 +2,7 @@
 //!
 //! Each call is `Refused` where its input is no file of its format, and `NoMemory` where memory runs out. Those with `_into` put the text at
 //! the front of a slice and answer its length, `NoRoom` where it is longer: a slice that is used again costs no new memory, and with as many
-//! octets as the call with `_size` says it is long enough. The others make a vector for what they write.
+//! octets as the call with `_size` says it is long enough, for `many` where each capture of the bundle is whole. The others make a vector for what they write.
 use crate::c::{self, Refusal};
 use crate::fault::{done, refused, Fault, NO_ROOM, REFUSED};
 

@@ -7,7 +7,7 @@ The library is looked for at ``MIZGAURE_LIBRARY``, then beside this file as ``li
 system does. Importing this module fails with an ``ImportError`` where there is none, or one of other calls.
 
 Arrays of the right type, C-contiguous and aligned, are passed as they are; others are converted, but never one that is written to,
-as an ``out`` is, which may not share memory with another argument. The interpreter's lock is let go during a call, so threads run
+as an ``out`` is, and an array for ``hits``, ``labels`` or ``sums``, which may not share memory with another argument. The interpreter's lock is let go during a call, so threads run
 side by side.
 """
 
@@ -360,7 +360,9 @@ def nearest(rate: Rate, channel: np.ndarray, received: np.ndarray) -> np.void:
     ----------
     rate : Rate
     channel : CHANNEL, one element
-    received : RECEIVED, one element, or int32 of shape (4, 2)
+    received : RECEIVED, one element, or int32 of shape (4, 2): the rows, each with real and imaginary part
+
+    Both are whole numbers in one unit, the squared distance of the hit in its square; the points are odd numbers (clause 20.3.11.9).
     """
     channel, received, found = _given(channel, CHANNEL), _samples(received), np.empty((), HIT)
     if channel.size != 1 or received.size != 1:
@@ -590,7 +592,9 @@ def decode_frame(rate: Rate, labels: np.ndarray, length: int, erased: int = 0) -
 
 
 def soft_frame(rate: Rate, weights: np.ndarray, length: int, erased: int = 0) -> tuple[bytes, int]:
-    """The octets of a frame's PSDU by weights, and their cost: int32, N_SYM * N_CBPS of them in the order of ``weigh_symbols``."""
+    """The octets of a frame's PSDU by weights, and their cost. The weights are int32, N_SYM * N_CBPS of them in the order of
+    ``weigh_symbols``.
+    """
     weights, octets, cost = _given(weights, np.int32), np.empty(_ranged("the length", length, 65535), np.uint8), _Pair()
     _check(_soft_frame(*_rate(rate), *_erased(erased), _at(weights), weights.size, _at(octets), octets.size, ctypes.addressof(cost)))
     return octets.tobytes(), cost.low + (cost.high << 64)
@@ -808,7 +812,10 @@ def certify_job(rate: Rate, channel: np.ndarray, received: np.ndarray) -> tuple[
 
 
 def check_job(rate: Rate, channel: np.ndarray, received: np.ndarray, hit: np.ndarray, marks: np.ndarray) -> None:
-    """Checks a certificate of one data subcarrier, whoever made it, and raises ``NotCertified`` where it doesn't hold."""
+    """Checks a certificate of one data subcarrier, whoever made it, and raises ``NotCertified`` where it doesn't hold.
+
+    The job is that of ``nearest``; ``hit`` is HIT, one element, and ``marks`` bool of shape (n,), as ``certify_job`` gives them.
+    """
     channel, received = _job(channel, received)
     hit, marks, flaw = _given(hit, HIT), _given(marks, np.bool_), _Flaw()
     if hit.size != 1:
