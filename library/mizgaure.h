@@ -21,7 +21,7 @@
  * is 0 to 3 for the coding rates 1/2, 2/3, 3/4 and 5/6 (clause 20.3.11.6). Spatial streams count from 1, all else from 0. Points
  * are on the grid of odd numbers: K_MOD (clause 20.3.11.9) is left to the channel.
  *
- * Sizes (clauses 20.6 and 20.3.11). Of a symbol's N_ST subcarriers, numbered upwards in frequency, N_SP are pilots:
+ * Sizes (clauses 20.6 and 20.3.11). Of a symbol's N_ST subcarriers, numbered from 0 upwards in frequency, N_SP are pilots:
  *   20 MHz: N_ST 56, N_SD 52, N_SP 4, the pilots 7 21 34 48;    40 MHz: N_ST 114, N_SD 108, N_SP 6, the pilots 5 33 47 66 80 108.
  * N_SS is mcs / 8 + 1, rounded down. For mcs % 8 from 0 to 7
  *   N_BPSCS is 1 2 2 4 4 6 6 6, and the coding rate 1/2 1/2 3/4 1/2 3/4 2/3 3/4 5/6.
@@ -98,8 +98,9 @@ uint32_t mizgaure_nearest(uint8_t bandwidth, uint8_t mcs, const mizgaure_channel
 /* A sum of squared distances, 16 octets: low + 2^64 * high. */
 typedef struct { uint64_t low, high; } mizgaure_distance;
 
-/* The nearest vectors, as above, of any number of symbols of `channels_n` data subcarriers. Received samples stand symbol by symbol, and
- * sample k meets channel k % channels_n. Each of the three outputs is whole, or left out as an empty array:
+/* The nearest vectors, as above, of any number of symbols of `channels_n` data subcarriers, as many as are given. Received samples
+ * stand symbol by symbol, and sample k meets channel k % channels_n. Each of the three outputs is whole, or left out as an empty
+ * array:
  *   hits     received_n of them: what was found, sample by sample;
  *   labels   received_n * N_SS octets in the order symbol, subcarrier, stream (that of mizgaure_decode_frame): the labels of the points
  *            that were found, of N_BPSCS bits each, those that mizgaure_labels answers for them (clause 20.3.11.9);

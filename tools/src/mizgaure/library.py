@@ -6,9 +6,9 @@ Each function is one call of the library, which ``mizgaure.h`` and docs/LIBRARY.
 The library is looked for at ``MIZGAURE_LIBRARY``, then beside this file as ``libmizgaure.so.0``, and then by that name as the
 system does. Importing this module fails with an ``ImportError`` where there is none, or one of other calls.
 
-Arrays of the right type, C-contiguous and aligned, are passed as they are; others are converted, but never one that is written to,
-as an ``out`` is, and an array for ``hits``, ``labels`` or ``sums``, which may not share memory with another argument. The interpreter's lock is let go during a call, so threads run
-side by side.
+Arrays of the right type, C-contiguous and aligned, are passed as they are; others are converted. An array that is written to, as an
+``out`` is, and one for ``hits``, ``labels`` or ``sums``, is never converted, and shares memory with no other argument, but for
+``scramble``. The interpreter's lock is let go during a call, so threads run side by side.
 """
 
 from __future__ import annotations
