@@ -28,7 +28,7 @@ use Rattle.ht_rounding.specs.declared.columns.Columns.{Columns}
 use Rattle.ht_rounding.specs.declared.eight.Labelled.{Labelled}
 use Rattle.ht_rounding.specs.declared.levels.Levels.{Levels}
 use Rattle.ht_rounding.specs.declared.levels.Levels.TheVariants.{One, Two, Four, Eight}
-use Rattle.ht_rounding.specs.declared.streams.Samples.{Samples}
+use Rattle.ht_rounding.specs.declared.streams.SampleLanes.{SampleLanes}
 use Rattle.ht_capture.specs.declared.items.FrameHead.{FrameHead}
 use Rattle.ht_capture.specs.declared.places.Present.{Present}
 use Rattle.ht_capture.specs.declared.template.Template.{Template}
@@ -165,7 +165,7 @@ template_at head (t ∷ ts) (suc n) d each lt =
     (found.0, record { is = found.1.is; job = found.1.job; present = found.1.present })
 
 -- lanes that label each job like a template, on which this was heard, label the jobs of a symbol
-pub symbol_labelled : (head : FrameHead) (templates : List Template) (columns : Columns) (samples : Samples) (label : Point → ℕ) (r : Labelled)
+pub symbol_labelled : (head : FrameHead) (templates : List Template) (columns : Columns) (samples : SampleLanes) (label : Point → ℕ) (r : Labelled)
     (k at j symbol number : ℕ) (octets : List ℕ) (d : Present) → AreTemplates head templates → HasColumns head templates columns
     → k + 8 ≤ length (presents_of templates) → j < 8
     → ((ls : List Leg) → length ls ≡ streams_of head.rate

@@ -8,7 +8,7 @@ ghost use Rattle.ht_rounding.specs.Loading.{IsWord};
 ghost use Rattle.ht_capture.specs.Systems.{samples_at};
 
 use byteorder::{BigEndian, ByteOrder};
-use ht_rounding::{Parts, Samples, word};
+use ht_rounding::{Parts, SampleLanes, word};
 use std::simd::prelude::*;
 
 // The number at a place.
@@ -58,13 +58,13 @@ fn row(octets: &[u8], at: usize, streams: usize, row: usize) -> Parts
 /// What was received on eight subcarriers of at most four streams, whose samples follow one another in the octets, from the place
 /// `at` on: lane k has those of subcarrier k.
 #[inline(always)]
-pub fn samples(octets: &[u8], at: usize, streams: usize) -> Samples
+pub fn samples(octets: &[u8], at: usize, streams: usize) -> SampleLanes
     requires few { streams ≤ 4 }
     requires whole { at + 64 * streams ≤ length octets.now }
     ensures { (k : ℕ) (legs : List Leg) → k < 8 → length legs ≡ streams
         → HasSamples result k (rows_of legs (samples_at streams octets.now (at + k * (8 * streams)))) }
 {
-    Samples {
+    SampleLanes {
         first: row(octets, at, streams, 1),
         second: row(octets, at, streams, 2),
         third: row(octets, at, streams, 3),
@@ -76,7 +76,7 @@ pub fn samples(octets: &[u8], at: usize, streams: usize) -> Samples
 /// `at` on: eight octets for each stream of a subcarrier, the real part first, both big-endian with a sign. Lane k has those of
 /// subcarrier k, and 0 on rows that there are no streams for. There is code of its own for each number of streams.
 #[inline(always)]
-pub fn samples_of(octets: &[u8], at: usize, streams: u8) -> Samples
+pub fn samples_of(octets: &[u8], at: usize, streams: u8) -> SampleLanes
     requires some { 1 ≤ streams }
     requires few { streams ≤ 4 }
     requires whole { at + 64 * streams ≤ length octets.now }

@@ -25,8 +25,8 @@ use Rattle.ht_cert.proofs.Encoded.{length-points_at}
 use Rattle.ht_cert.specs.Formats.{RecordState, Modulated, Streams, Claim, Marks, Mark, certificates, is_no_streams, marks_due, marks_given, next_turn}
 use Rattle.ht_cert.specs.Formats.{records_due}
 use Rattle.ht_cert.specs.Readers.{Fails, GivesRecord, HasItsPoints, ReadsClaim, TakesSome, here}
-use Rattle.ht_cert.specs.declared.reader.Came.{Came}
-use Rattle.ht_cert.specs.declared.reader.Came.TheVariants.{Whole, End}
+use Rattle.ht_cert.specs.declared.reader.RecordStep.{RecordStep}
+use Rattle.ht_cert.specs.declared.reader.RecordStep.TheVariants.{Whole, End}
 use Rattle.std.specs.Prelude.{MatchResult}
 use Rattle.std.proofs.Common.{Result, Ok, Err}
 use Rattle.ht_fields.specs.Meanings.{before}
@@ -213,7 +213,7 @@ file_goes_on turn at a b fault none further =
     (halts_fails (here Over at a) b fault (further_halts certificates Over at a b fault tt further))
 
 -- what came of a reader behind good fields
-pub answer_behind : (old mid new : ReaderView Record) (r : Record) (answer : Result Came InFault) → Gives old mid [] → IsLater old.source mid.source
+pub answer_behind : (old mid new : ReaderView Record) (r : Record) (answer : Result RecordStep InFault) → Gives old mid [] → IsLater old.source mid.source
     → MatchResult answer (λ came. GivesRecord mid new came r) (Fails mid new.source)
     → MatchResult answer (λ came. GivesRecord old new came r) (Fails old new.source)
 answer_behind old mid new r (Ok Whole) g later m = gives_more old mid new [] (r ∷ []) g m

@@ -11,8 +11,8 @@ use Rattle.ht_fields.specs.Readers.{ReaderView, reader_in, Gives, Completes}
 use Rattle.ht_fields.specs.WholeFiles.{StopsWithCause}
 use Rattle.ht_heads.specs.Starts.{StartState}
 use Rattle.ht_cert.specs.declared.record.Record.{Record}
-use Rattle.ht_cert.specs.declared.reader.Came.{Came}
-use Rattle.ht_cert.specs.declared.reader.Came.TheVariants.{Whole, End}
+use Rattle.ht_cert.specs.declared.reader.RecordStep.{RecordStep}
+use Rattle.ht_cert.specs.declared.reader.RecordStep.TheVariants.{Whole, End}
 use Rattle.ht_cert.specs.declared.turn.Turn.{Turn}
 use Rattle.ht_cert.specs.declared.turn.Stage.{Stage}
 use Rattle.ht_cert.specs.declared.turn.Stage.TheVariants.{Begin, Next, Ended, Stopped}
@@ -86,23 +86,23 @@ abbrev pub HasItsPoints : Record → Type 0
 HasItsPoints r = length r.certificate.vector ≡ length r.job.system
 
 -- a record was read, or the file ended
-abbrev pub GivesRecord : ReaderView Record → ReaderView Record → Came → Record → Type 0
+abbrev pub GivesRecord : ReaderView Record → ReaderView Record → RecordStep → Record → Type 0
 GivesRecord old new Whole r = Gives old new (r ∷ [])
 GivesRecord old new End r = Completes old new.source
 
 -- What a call comes to that reads the next record, or sees that the file ends. Where it is a fault, the reading stopped on the
 -- way, before any record.
-abbrev pub ReadsNext : Result Came InFault → ReaderView Record → ReaderView Record → Record → Type 0
+abbrev pub ReadsNext : Result RecordStep InFault → ReaderView Record → ReaderView Record → Record → Type 0
 ReadsNext result old new r = MatchResult result (λ came. GivesRecord old new came r) (Fails old new.source)
 
 -- the answer that a reader gives again and again
-abbrev pub finished_stage : Stage → Option (Result Came InFault)
+abbrev pub finished_stage : Stage → Option (Result RecordStep InFault)
 finished_stage Begin = None
 finished_stage (Next turn) = None
 finished_stage Ended = Some (Ok End)
 finished_stage (Stopped fault) = Some (Err fault)
 
-abbrev pub finished : Progress → Option (Result Came InFault)
+abbrev pub finished : Progress → Option (Result RecordStep InFault)
 finished reader = finished_stage reader.stage
 
 -- a number of a stage: at first, and while records are read; behind that it is 0
@@ -127,7 +127,7 @@ abbrev pub number : Progress → ℕ
 number reader = number_at reader.stage
 
 -- behind each record the bound is less, and the number one more
-abbrev pub Advances : Progress → Progress → Came → Record → Type 0
+abbrev pub Advances : Progress → Progress → RecordStep → Record → Type 0
 Advances old new Whole r = (more new < more old) × (r.job.number ≡ number old) × (number new ≡ number old + 1) × (finished new ≡ None)
 Advances old new End r = more new ≤ more old
 

@@ -27,6 +27,6 @@ mod turn;
 mod writing;
 
 pub use block::Block;
-pub use reader::{Came, RecordReader};
+pub use reader::{RecordReader, RecordStep};
 pub use record::Record;
 pub use writing::{write_record, write_start};

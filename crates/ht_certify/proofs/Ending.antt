@@ -23,7 +23,7 @@ use Rattle.ht_runs.proofs.Streaming.{ends_with_its_fault, lacked, lined, written
 use Rattle.ht_cert.specs.declared.record.Record.{Record}
 use Rattle.ht_cert.specs.Formats.{certificates}
 use Rattle.ht_cert.specs.Readers.{Fails, TakesSome, here}
-use Rattle.ht_certify.specs.declared.tally.Tally.{Tally}
+use Rattle.ht_certify.specs.declared.score.Score.{Score}
 use Rattle.ht_certify.specs.Checks.{check_end_of, check_line, check_lines, check_lines_from, check_lines_of, check_text, checking}
 use Rattle.ht_certify.specs.Running.{Checks}
 use Rattle.ht_certify.proofs.Lists.{lines_append}
@@ -82,23 +82,23 @@ module _ (source sink : Device ℕ) where
         (grows_by_part-append sink sink' sink'' put waiting grows part)))
         (failed-later sink sink' sink'' later rose)
 
-  module _ (reader : ReaderView Record) (sink' : Device ℕ) (tally : Tally) (waiting : List ℕ) (k : Checks source sink reader sink' tally waiting) where
+  module _ (reader : ReaderView Record) (sink' : Device ℕ) (score : Score) (waiting : List ℕ) (k : Checks source sink reader sink' score waiting) where
     -- a record came, and there is no memory for its line
     pub lacks_line : (new : ReaderView Record) (r : Record) → Gives reader new (r ∷ []) → StreamFails checking source new.source sink sink' NoMemory
     lacks_line new r gives =
         let all = gives_more (here certificates.start 0 source) reader new k.records (r ∷ []) k.gives gives in
-        lacks new.source sink' (k.records ++ r ∷ []) k.put (waiting ++ check_line tally.jobs r)
+        lacks new.source sink' (k.records ++ r ∷ []) k.put (waiting ++ check_line score.jobs r)
         (saw_gives certificates source new (k.records ++ r ∷ []) all)
-        (line_added source sink reader sink' tally waiting (waiting ++ check_line tally.jobs r) r k refl) k.grows
+        (line_added source sink reader sink' score waiting (waiting ++ check_line score.jobs r) r k refl) k.grows
 
     -- a record came, and the sink failed at the lines
     pub fails_at_lines : (new : ReaderView Record) (sink'' : Device ℕ) (text : List ℕ) (r : Record) → Gives reader new (r ∷ [])
-        → text ≡ waiting ++ check_line tally.jobs r → GrowsByPart sink' sink'' text → Rose sink' sink''
+        → text ≡ waiting ++ check_line score.jobs r → GrowsByPart sink' sink'' text → Rose sink' sink''
         → StreamFails checking source new.source sink sink'' Write
     fails_at_lines new sink'' text r gives is part rose =
         let all = gives_more (here certificates.start 0 source) reader new k.records (r ∷ []) k.gives gives in
         fails_to_put new.source sink' (k.records ++ r ∷ []) k.put text (saw_gives certificates source new (k.records ++ r ∷ []) all)
-        (line_added source sink reader sink' tally waiting text r k is) k.grows sink'' part k.puts_later rose
+        (line_added source sink reader sink' score waiting text r k is) k.grows sink'' part k.puts_later rose
 
     saw_failed : (source' : Device ℕ) (fault : InFault) → Fails reader source' fault → Saw certificates source source' k.records
     saw_failed source' fault fails =
@@ -170,11 +170,11 @@ module _ (source sink : Device ℕ) where
           ∙ (append_assoc k.put waiting (check_end_of k.records) ∙ ap (λ (xs : List ℕ). k.put ++ xs) (sym is))
 
       -- the last line is that of the counts
-      pub last_is : (last : List ℕ) → last ≡ waiting ++ checked_text tally.jobs tally.right → last ≡ waiting ++ check_end_of k.records
+      pub last_is : (last : List ℕ) → last ≡ waiting ++ checked_text score.jobs score.right → last ≡ waiting ++ check_end_of k.records
       last_is last is =
-          is ∙ (ap (λ n. waiting ++ checked_text n tally.right) k.jobs ∙ ap (λ n. waiting ++ checked_text (length k.records) n) k.right)
+          is ∙ (ap (λ n. waiting ++ checked_text n score.right) k.jobs ∙ ap (λ n. waiting ++ checked_text (length k.records) n) k.right)
 
-      pub ends : (sink'' : Device ℕ) (last : List ℕ) → last ≡ waiting ++ checked_text tally.jobs tally.right → Grows sink' sink'' last
+      pub ends : (sink'' : Device ℕ) (last : List ℕ) → last ≡ waiting ++ checked_text score.jobs score.right → Grows sink' sink'' last
           → FinishesRun checking source source' sink sink''
       ends sink'' last is more = record {
         taken = all_taken;
@@ -184,7 +184,7 @@ module _ (source sink : Device ℕ) where
             (grows-append sink sink' sink'' k.put last k.grows more);
       }
 
-      pub ends_in_part : (sink'' : Device ℕ) (last : List ℕ) → last ≡ waiting ++ checked_text tally.jobs tally.right → GrowsByPart sink' sink'' last
+      pub ends_in_part : (sink'' : Device ℕ) (last : List ℕ) → last ≡ waiting ++ checked_text score.jobs score.right → GrowsByPart sink' sink'' last
           → Rose sink' sink''
           → StreamFails checking source source' sink sink'' Write
       ends_in_part sink'' last is part rose =

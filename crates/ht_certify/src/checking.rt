@@ -8,8 +8,8 @@ ghost use Rattle.ht_certify.specs.Checks.{checking};
 
 use crate::check_putting::{BLOCK, put, put_block};
 use crate::lines::push_line;
-use crate::tally::Tally;
-use ht_cert::{Came, Record, RecordReader};
+use crate::score::Score;
+use ht_cert::{Record, RecordReader, RecordStep};
 use ht_io::{Sink, Source};
 use ht_runs::RunFault;
 use ht_text::push_checked_line;
@@ -46,16 +46,16 @@ pub fn check_file<S: Source, K: Sink>(
     let mut text = String::with_capacity(alloc, ROOM)?;
     let mut recorded = Record::empty(alloc);
     let mut reader = RecordReader::new();
-    let mut tally = Tally::new();
+    let mut score = Score::new();
     loop {
         match reader.next(source, &mut recorded) {
-            Ok(Came::Whole) => {
-                let is_right = push_line(&mut text, tally.jobs, &recorded)?;
-                tally.count(is_right);
+            Ok(RecordStep::Whole) => {
+                let is_right = push_line(&mut text, score.jobs, &recorded)?;
+                score.count(is_right);
                 put_block(&mut text, sink)?;
             }
-            Ok(Came::End) => {
-                push_checked_line(&mut text, tally.jobs, tally.right)?;
+            Ok(RecordStep::End) => {
+                push_checked_line(&mut text, score.jobs, score.right)?;
                 put(&mut text, sink)?;
                 return Ok(());
             }

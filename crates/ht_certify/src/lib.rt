@@ -33,8 +33,8 @@ pub mod laws;
 mod lines;
 mod making;
 mod putting;
+mod score;
 mod subcarriers;
-mod tally;
 
 pub use certifying::certify_capture;
 pub use checking::check_file;

@@ -13,8 +13,8 @@ use Rattle.ht_feed.specs.Items.{Numbered}
 use Rattle.ht_feed.proofs.Turning.{all_in-more, came_of}
 use Rattle.ht_drive.specs.Blocks.{IsSameCaller, gave}
 use Rattle.ht_drive.specs.Blocks.{BlockCaller, IsBlock, jobs_in, jobs_of}
-use Rattle.ht_drive.specs.Driving.{Tallies}
-use Rattle.ht_drive.specs.declared.tally.Tally.{Tally}
+use Rattle.ht_drive.specs.Driving.{AreCountsOf}
+use Rattle.ht_drive.specs.declared.counts.CallerCounts.{CallerCounts}
 use Rattle.ht_drive.proofs.Windows.{full-more}
 
 below_later : (n m more : ℕ) → (if nat_lt n m then 1 else 0) ≤ (if nat_lt n (m + more) then 1 else 0)
@@ -47,8 +47,8 @@ same_on a b c ab bc = record {
 }
 
 -- the same was given to the same pool
-pub tallies_still : (t : Tally) (h h' : BlockCaller) → Tallies t h → h'.given ≡ h.given → h'.capacity ≡ h.capacity → Tallies t h'
-tallies_still t h h' was given room =
+pub counted_still : (t : CallerCounts) (h h' : BlockCaller) → AreCountsOf t h → h'.given ≡ h.given → h'.capacity ≡ h.capacity → AreCountsOf t h'
+counted_still t h h' was given room =
     let same = ap (λ (xs : List (List JobView)). length xs) given in
     record {
       jobs = omega (arith, was.jobs, ap jobs_of given);
@@ -59,27 +59,27 @@ tallies_still t h h' was given room =
     }
 
 -- a block was given, or the pool had no memory for it
-module _ (t : Tally) (h : BlockCaller) (jobs : List JobView) (tallies : Tallies t h) (numbered : Numbered t.issued jobs) (block : IsBlock jobs) where
-  pub issues_given : (t' : Tally) → t'.issued ≡ t.issued + length jobs → t'.own ≡ t.own → Tallies t' (gave h jobs)
+module _ (t : CallerCounts) (h : BlockCaller) (jobs : List JobView) (counted : AreCountsOf t h) (numbered : Numbered t.issued jobs) (block : IsBlock jobs) where
+  pub issues_given : (t' : CallerCounts) → t'.issued ≡ t.issued + length jobs → t'.own ≡ t.own → AreCountsOf t' (gave h jobs)
   issues_given t' issued own =
       let some = block.some in
       record {
-        jobs = omega (arith, tallies.jobs, sum_by_push jobs_in h.given jobs, issued, own);
-        blocks = omega (arith, tallies.blocks, length-append h.given (jobs ∷ []), issued, some);
-        full = full-more h.given jobs tallies.full block.some;
-        sure = λ kept. omega (arith, tallies.sure (omega (arith, kept, own)), length-append h.given (jobs ∷ []));
+        jobs = omega (arith, counted.jobs, sum_by_push jobs_in h.given jobs, issued, own);
+        blocks = omega (arith, counted.blocks, length-append h.given (jobs ∷ []), issued, some);
+        full = full-more h.given jobs counted.full block.some;
+        sure = λ kept. omega (arith, counted.sure (omega (arith, kept, own)), length-append h.given (jobs ∷ []));
         numbers = subst (λ (n : ℕ). HaveNumbers n (all_in (h.given ++ jobs ∷ []))) (sym issued)
             (subst (λ (xs : List JobView). HaveNumbers (t.issued + length jobs) xs) (sym (all_in-more h.given jobs))
-            (numbers_more t.issued (all_in h.given) jobs tallies.numbers numbered));
+            (numbers_more t.issued (all_in h.given) jobs counted.numbers numbered));
       }
 
-  pub issues_kept : (t' : Tally) → t'.issued ≡ t.issued + length jobs → t'.own ≡ t.own + length jobs → h.capacity ≤ length h.given → Tallies t' h
+  pub issues_kept : (t' : CallerCounts) → t'.issued ≡ t.issued + length jobs → t'.own ≡ t.own + length jobs → h.capacity ≤ length h.given → AreCountsOf t' h
   issues_kept t' issued own full = record {
-    jobs = omega (arith, tallies.jobs, issued, own);
-    blocks = omega (arith, tallies.blocks, issued);
-    full = tallies.full;
+    jobs = omega (arith, counted.jobs, issued, own);
+    blocks = omega (arith, counted.blocks, issued);
+    full = counted.full;
     sure = λ kept. full;
-    numbers = subst (λ (n : ℕ). HaveNumbers n (all_in h.given)) (sym issued) (numbers_later t.issued (length jobs) (all_in h.given) tallies.numbers);
+    numbers = subst (λ (n : ℕ). HaveNumbers n (all_in h.given)) (sym issued) (numbers_later t.issued (length jobs) (all_in h.given) counted.numbers);
   }
 
 -- jobs that are told behind others

@@ -13,9 +13,9 @@ use Rattle.ht_pool.specs.declared.member.Member.{Member}
 use Rattle.ht_feed.specs.OwnNumbers.{HaveNumbers}
 use Rattle.ht_feed.specs.Dues.{NoneEmpty, all_in}
 use Rattle.ht_drive.specs.Blocks.{BlockCaller, RunBlock, jobs_in, jobs_of, jobs_run, lacking, lacks, pool_of, run_block, task_of}
-use Rattle.ht_drive.specs.Driving.{Tallies}
+use Rattle.ht_drive.specs.Driving.{AreCountsOf}
 use Rattle.ht_drive.specs.Reports.{HasRunInPool, IsShared, Passes, Report, blocks_pushed, came_back, deques_of}
-use Rattle.ht_drive.specs.declared.tally.Tally.{Tally}
+use Rattle.ht_drive.specs.declared.counts.CallerCounts.{CallerCounts}
 
 -- the caller kept no more than the jobs beyond the room
 kept : (own given blocks jobs room : ℕ) → given + own ≡ jobs → blocks ≤ given → (0 < own → room ≤ blocks) → own + min jobs room ≤ jobs
@@ -78,7 +78,7 @@ summed (runs ∷ others) = omega (
   sum_by-append (λ (r : RunBlock). length r.jobs) runs (flat_map (λ (rs : List RunBlock). rs) others),
 )
 
-module _ (t : Tally) (h : BlockCaller) (members : List Helper) (c : Closed (List JobView) RunBlock) (tallies : Tallies t h)
+module _ (t : CallerCounts) (h : BlockCaller) (members : List Helper) (c : Closed (List JobView) RunBlock) (counted : AreCountsOf t h)
     (run : HasRun task_of jobs_in (pool_of h) members c) (answered : lacking h.answers ≡ 0) where
   abbrev passes_of : Passes
   passes_of = record { deques = c.deques; results = c.pass }
@@ -109,22 +109,22 @@ module _ (t : Tally) (h : BlockCaller) (members : List Helper) (c : Closed (List
       let items = ap (λ v. v.items) ran in
       record {
         deques = run.deques;
-        pushed = omega (arith, ap jobs_of run.pushed, tallies.jobs, jobs, own);
-        full = subst NoneEmpty (sym run.pushed) tallies.full;
+        pushed = omega (arith, ap jobs_of run.pushed, counted.jobs, jobs, own);
+        full = subst NoneEmpty (sym run.pushed) counted.full;
         sure = omega (
           arith,
-          kept t.own (jobs_of h.given) (length h.given) t.issued h.capacity tallies.jobs (few_given h.given tallies.full) tallies.sure,
+          kept t.own (jobs_of h.given) (length h.given) t.issued h.capacity counted.jobs (few_given h.given counted.full) counted.sure,
           jobs,
           own,
           ap (λ n. min n h.capacity) jobs,
         );
         numbers = subst (λ (n : ℕ). HaveNumbers n (all_in (blocks_pushed passes_of))) (sym jobs)
-            (subst (λ (blocks : List (List JobView)). HaveNumbers t.issued (all_in blocks)) (sym run.pushed) tallies.numbers);
+            (subst (λ (blocks : List (List JobView)). HaveNumbers t.issued (all_in blocks)) (sym run.pushed) counted.numbers);
         emptied = run.emptied;
         taken = subst (λ (blocks : List (List JobView)). SameCounts (taken_on (deques_of passes_of)) (blocks ++ moved_on (deques_of passes_of)))
             (sym run.pushed) run.taken;
         each = ap length items ∙ run.each;
-        ran = omega (arith, ap sum items, run.ran, tallies.jobs, jobs, own);
+        ran = omega (arith, ap sum items, run.ran, counted.jobs, jobs, own);
         shared = subst (λ (ns : List ℕ). IsShared ns passes_of) (sym items) shared;
         helped = helped ∙ sym (ap (λ (ns : List ℕ). sum (drop 1 ns)) items);
         received = run.answers;

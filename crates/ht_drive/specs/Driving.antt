@@ -8,10 +8,10 @@ use Rattle.ht_feed.specs.Feeds.{FeedView, IsAlong, IsFreshFeed, IsInTurn, IsLeft
 use Rattle.ht_feed.specs.declared.drive.DriveFault.{DriveFault}
 use Rattle.ht_feed.specs.declared.drive.DriveFault.TheVariants.{Feed, NoMemory, Work}
 use Rattle.ht_drive.specs.Blocks.{BlockCaller, BlockWindow, IsSameCaller, IsSettled, jobs_of}
-use Rattle.ht_drive.specs.declared.tally.Tally.{Tally}
+use Rattle.ht_drive.specs.declared.counts.CallerCounts.{CallerCounts}
 
 -- the counts of a caller fit the blocks that it gave to the pool
-pub record Tallies (t : Tally) (caller : BlockCaller) : Type 0 where
+pub record AreCountsOf (t : CallerCounts) (caller : BlockCaller) : Type 0 where
   -- a job was given to the pool, or is the caller's own
   pub jobs : jobs_of caller.given + t.own ≡ t.issued
   pub blocks : length caller.given ≤ t.issued
@@ -49,11 +49,11 @@ module _ {Fault : Type 0} where
     pub whole : caller.whole ≡ true
 
   -- how a caller stands between two calls of its feed
-  pub record Stands (running : Bool) (window : BlockWindow) (caller : BlockCaller) (t : Tally) (feed : FeedView Fault) : Type 0 where
+  pub record Stands (running : Bool) (window : BlockWindow) (caller : BlockCaller) (t : CallerCounts) (feed : FeedView Fault) : Type 0 where
     -- its window holds what is due
     pub holds : Holds window feed
     -- its counts fit what it gave to the pool, and what the feed gave
-    pub tallies : Tallies t caller
+    pub counted : AreCountsOf t caller
     pub issued : t.issued ≡ feed.count
     -- the feed goes on, or has ended
     pub under_way : IsUnderWay running feed
@@ -78,7 +78,7 @@ module _ {Fault : Type 0} where
 
   -- a caller has gone on, and stands so
   pub record IsLeading {F : Type 0} (shown : F → FeedView Fault) (Leads : F → F → Type 0) (running : Bool) (window window' : BlockWindow)
-      (caller caller' : BlockCaller) (t' : Tally) (old new : F) : Type 0 where
+      (caller caller' : BlockCaller) (t' : CallerCounts) (old new : F) : Type 0 where
     pub stands : Stands running window' caller' t' (shown new)
     -- only calls of the feed changed it
     pub leads : Leads old new
@@ -99,10 +99,10 @@ module _ {Fault : Type 0} where
   Refuses MayLack feed Work = (feed.failed ≡ None) × MayLack
 
   -- a caller has led all blocks of a feed through its end of a pool, with these counts
-  pub record HasLed (old new : FeedView Fault) (caller : BlockCaller) (t : Tally) : Type 0 where
+  pub record HasLed (old new : FeedView Fault) (caller : BlockCaller) (t : CallerCounts) : Type 0 where
     pub through : IsThrough new
     pub jobs : t.issued ≡ new.count
-    pub tallies : Tallies t caller
+    pub counted : AreCountsOf t caller
     -- where the jobs to come were known, each one given to the pool is that of its number
     pub by_number : (all : List JobView) → old.left ≡ Some all → AreByNumber all (all_in caller.given)
     -- each was taken back or received, and all with their answers
@@ -111,7 +111,7 @@ module _ {Fault : Type 0} where
 
   -- a caller leads the blocks of a feed through a window of this number of jobs and its end of a pool, and answers this
   pub record LeadsBlocks {F : Type 0} (shown : F → FeedView Fault) (Leads : F → F → Type 0) (MayLack : Type 0) (window : ℕ) (old new : F)
-      (before after : BlockCaller) (result : Result Tally (DriveFault Fault)) : Type 0 where
+      (before after : BlockCaller) (result : Result CallerCounts (DriveFault Fault)) : Type 0 where
     -- however it ends
     pub leaves : LeavesInTurn shown Leads window old new
     pub same : IsSameCaller before after

@@ -4,10 +4,10 @@ ghost use Rattle.ht_drive.specs.Blocks.{seen};
 ghost use Rattle.ht_drive.specs.Driving.{HasYetToLead, LeadsBlocks};
 
 use crate::caller::BlockCaller;
+use crate::counts::CallerCounts;
 use crate::deliver::deliver;
 use crate::pace::Pace;
 use crate::supply::supply;
-use crate::tally::Tally;
 use crate::task::Runner;
 use crate::turn::turn;
 use crate::window::Window;
@@ -29,14 +29,14 @@ pub(crate) fn lead<
     pace: &mut Pace,
     caller: &mut BlockCaller<'_, '_, B, A, W>,
     feed: &mut F,
-) -> Result<Tally, DriveFault<F::Fault>>
+) -> Result<CallerCounts, DriveFault<F::Fault>>
     requires { HasYetToLead (seen B.jobs window.old) caller.old (F.shown feed.old) }
     ensures { LeadsBlocks F.shown F.leads (A.may_lack ⊎ B.may_lack) window.old.capacity feed.old feed.new caller.old caller.new result }
 {
-    let mut tally = Tally { issued: 0, own: 0 };
+    let mut counts = CallerCounts { issued: 0, own: 0 };
     let mut running = true;
     for _ in rt.forever() {
-        running = match supply(window, caller, &mut tally, pace.size(), running, feed) {
+        running = match supply(window, caller, &mut counts, pace.size(), running, feed) {
             Ok(on) => on,
             Err(fault) => return Err(fault),
         };
@@ -44,7 +44,7 @@ pub(crate) fn lead<
             return Err(DriveFault::Feed(fault));
         }
         if !running && window.is_empty() && caller.is_home() {
-            return Ok(tally);
+            return Ok(counts);
         }
         if turn(runner.work, window, caller, pace).is_err() {
             return Err(DriveFault::Work);

@@ -20,13 +20,13 @@
 #![tactic(auto)]
 
 mod caller;
+mod counts;
 mod deliver;
 mod lead;
 mod pace;
 mod report;
 mod slot;
 mod supply;
-mod tally;
 mod task;
 mod telling;
 mod threaded;

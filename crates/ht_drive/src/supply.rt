@@ -5,10 +5,10 @@ ghost use Rattle.ht_feed.specs.OwnNumbers.{AreByNumber};
 ghost use Rattle.ht_feed.specs.Dues.{all_in, count_in};
 ghost use Rattle.ht_feed.specs.Items.{Numbered};
 ghost use Rattle.ht_drive.specs.Blocks.{IsBlock, IsSameCaller, block_window, due_in, seen};
-ghost use Rattle.ht_drive.specs.Driving.{Holds, IsLeading, Refuses, Stands, StepsOn, Tallies};
+ghost use Rattle.ht_drive.specs.Driving.{Holds, IsLeading, Refuses, Stands, StepsOn, AreCountsOf};
 
 use crate::caller::BlockCaller;
-use crate::tally::Tally;
+use crate::counts::CallerCounts;
 use crate::task::Task;
 use crate::window::Window;
 use ht_feed::{Answer, BlockFeed, DriveFault, Jobs, Shared, Work};
@@ -19,19 +19,19 @@ use std::alloc::AllocError;
 fn issue<B: Shared + Drop + Send, A: Answer + Drop + Send, W: Work<B, Answer = A>>(
     window: &mut Window<B, A>,
     caller: &mut BlockCaller<'_, '_, B, A, W>,
-    tally: &mut Tally,
+    counts: &mut CallerCounts,
     block: B,
 ) -> Result<(), AllocError>
     requires block { IsBlock (B.jobs block) }
     requires room { count_in (due_in B.jobs window.old.slots) + length (B.jobs block) ≤ window.old.capacity }
-    requires tallies { Tallies tally.old caller.old }
-    requires numbers { Numbered tally.old.issued (B.jobs block) }
-    requires last { tally.old.issued + length (B.jobs block) < 2 ^ 64 - 1 }
+    requires counted { AreCountsOf counts.old caller.old }
+    requires numbers { Numbered counts.old.issued (B.jobs block) }
+    requires last { counts.old.issued + length (B.jobs block) < 2 ^ 64 - 1 }
     ensures window { seen B.jobs window.new ≡ block_window window.old.capacity (due_in B.jobs window.old.slots ++ B.jobs block ∷ []) }
-    ensures tallies { OnOk result (Tallies tally.new caller.new) }
+    ensures counted { OnOk result (AreCountsOf counts.new caller.new) }
     ensures by_number { OnOk result ((all : List JobView) → AreByNumber all (all_in caller.old.given) → AreByNumber all (B.jobs block)
         → AreByNumber all (all_in caller.new.given)) }
-    ensures issued { tally.new.issued ≡ tally.old.issued + length (B.jobs block) }
+    ensures issued { counts.new.issued ≡ counts.old.issued + length (B.jobs block) }
     ensures same { IsSameCaller caller.old caller.new }
     ensures whole { caller.new.whole ≡ caller.old.whole }
     ensures lacks { OnErr result B.may_lack }
@@ -39,12 +39,12 @@ fn issue<B: Shared + Drop + Send, A: Answer + Drop + Send, W: Work<B, Answer = A
     let size = u64::from(block.size());
     let copy = block.copy();
     let place = window.push(block);
-    tally.issued += size;
+    counts.issued += size;
     let Some(copy) = copy else {
         return Err(AllocError);
     };
     if !caller.give(Task::new(place, copy)) {
-        tally.own += size;
+        counts.own += size;
     }
     Ok(())
 }
@@ -59,30 +59,30 @@ pub(crate) fn supply<
 >(
     window: &mut Window<B, A>,
     caller: &mut BlockCaller<'_, '_, B, A, W>,
-    tally: &mut Tally,
+    counts: &mut CallerCounts,
     size: u16,
     running: bool,
     feed: &mut F,
 ) -> Result<bool, DriveFault<F::Fault>>
     requires some { 1 ≤ size }
     requires capacity { window.old.capacity ≤ 4096 }
-    requires stands { Stands running (seen B.jobs window.old) caller.old tally.old (F.shown feed.old) }
+    requires stands { Stands running (seen B.jobs window.old) caller.old counts.old (F.shown feed.old) }
 
     // However it ends.
     ensures steps { StepsOn F.shown F.leads (seen B.jobs window.old) (seen B.jobs window.new) feed.old feed.new }
     ensures holds { Holds (seen B.jobs window.new) (F.shown feed.new) }
-    ensures issued { tally.new.issued ≡ (F.shown feed.new).count }
+    ensures issued { counts.new.issued ≡ (F.shown feed.new).count }
     ensures same { IsSameCaller caller.old caller.new }
 
     ensures goes_on { IfOk result (λ on. IsLeading F.shown F.leads on (seen B.jobs window.old)
-        (seen B.jobs window.new) caller.old caller.new tally.new feed.old feed.new) }
+        (seen B.jobs window.new) caller.old caller.new counts.new feed.old feed.new) }
     ensures refuses { IfErr result (Refuses (A.may_lack ⊎ B.may_lack) (F.shown feed.new)) }
 {
     let mut running = running;
     while running && window.room() >= size {
         match feed.next(size) {
             Ok(Some(block)) => {
-                if issue(window, caller, tally, block).is_err() {
+                if issue(window, caller, counts, block).is_err() {
                     return Err(DriveFault::Work);
                 }
             }

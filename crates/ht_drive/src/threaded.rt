@@ -7,14 +7,14 @@ ghost use Rattle.ht_feed.specs.Feeds.{IsFreshFeed};
 ghost use Rattle.ht_pool.specs.Members.{HasServed, workplace_of, workplaces};
 ghost use Rattle.ht_pool.specs.Pools.{IsOpened, IsVacant};
 ghost use Rattle.ht_drive.specs.Blocks.{IsSettled, due_in, jobs_in, seen, task_of};
-ghost use Rattle.ht_drive.specs.Driving.{HasYetToLead, Tallies};
+ghost use Rattle.ht_drive.specs.Driving.{HasYetToLead, AreCountsOf};
 ghost use Rattle.ht_drive.specs.Reports.{HasRunInPool, HasRunJobs, blocks_pushed, jobs_reported};
 
 use crate::caller::BlockCaller;
+use crate::counts::CallerCounts;
 use crate::lead::lead;
 use crate::pace::Pace;
 use crate::report::{Passes, Report};
-use crate::tally::Tally;
 use crate::task::{Done, Runner, Task};
 use crate::window::Window;
 use ht_feed::{Answer, BlockFeed, DriveFault, Jobs, Shared, Work, drive_alone};
@@ -124,19 +124,19 @@ fn in_pool<
         runner,
         shared,
         members,
-        &mut || -> Result<Tally, DriveFault<E>>
+        &mut || -> Result<CallerCounts, DriveFault<E>>
             requires { HasYetToLead (seen B.jobs window) caller (F.shown feed.now) }
         { lead(rt, runner, &mut window, &mut pace, &mut caller, feed) },
     );
     match led {
-        Ok(tally) => Ok(finish(tally, caller, members, space)),
+        Ok(counts) => Ok(finish(counts, caller, members, space)),
         Err(fault) => Err(fault),
     }
 }
 
 // What was done, once every block was taken and the workers have ended.
 fn finish<B: Jobs + Drop + Send, A: Answer + Drop + Send, W: Work<B, Answer = A>>(
-    tally: Tally,
+    counts: CallerCounts,
     caller: BlockCaller<'_, '_, B, A, W>,
     members: Vec<Member<Task<B>, Done<B, A>>>,
     space: Space<Task<B>>,
@@ -146,16 +146,16 @@ fn finish<B: Jobs + Drop + Send, A: Answer + Drop + Send, W: Work<B, Answer = A>
     requires space { IsVacant (length caller.deques) space }
     requires settled { IsSettled caller }
     requires whole { caller.whole ≡ true }
-    requires tallies { Tallies tally caller }
-    ensures jobs { result.jobs ≡ tally.issued }
+    requires counted { AreCountsOf counts caller }
+    ensures jobs { result.jobs ≡ counts.issued }
     ensures passes { IsSome result.passes }
     ensures ran { IfSome result.passes (HasRunInPool (length caller.entry.deques) caller.entry.capacity result) }
     ensures given { IfSome result.passes (λ passes. blocks_pushed passes ≡ caller.entry.given) }
 {
     let Closed { deques, pass, ran } = close(caller.into_caller(), members, space);
     Report {
-        jobs: tally.issued,
-        own: tally.own,
+        jobs: counts.issued,
+        own: counts.own,
         ran,
         passes: Some(Passes {
             deques,

@@ -5,7 +5,7 @@ ghost use Rattle.ht_results.specs.Plans.{begun_by};
 ghost use Rattle.ht_frames.specs.Frames.{HasKept, IsOpen, IsWhole, frame_for, results_by, with_tally};
 ghost use Rattle.ht_frames.specs.Tallies.{IsAlike};
 
-use crate::kind::{Kind, Together};
+use crate::kind::{Kind, TogetherKind};
 use crate::tally::Tally;
 use crate::under_way::{UnderWay, UnderWayTogether};
 use crate::whole_frame::WholeFrame;
@@ -189,7 +189,7 @@ impl<K: Kind> WholeFrame for Whole<K> {
     }
 }
 
-impl<K: Together> Whole<K> {
+impl<K: TogetherKind> Whole<K> {
     /// Its result, where another thread may help. The only error is lack of memory.
     pub(crate) fn together<R: Threads>(
         &self,
@@ -259,7 +259,7 @@ impl<K: Kind> UnderWay for Frame<K> {
     ghost none = { λ f. refl };
 }
 
-impl<K: Together> UnderWayTogether for Frame<K> {
+impl<K: TogetherKind> UnderWayTogether for Frame<K> {
     fn decode_together<R: Threads>(
         whole: &Whole<K>,
         rt: &R,

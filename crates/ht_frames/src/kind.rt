@@ -128,7 +128,7 @@ pub trait Kind {
 
 /// A kind whose frames can be decoded where another thread may help. It stands apart, so that what receives in one thread
 /// reaches no other.
-pub trait Together: Kind {
+pub trait TogetherKind: Kind {
     /// Does as [`Kind::decode`], and another thread may help.
     fn decode_together<R: Threads>(
         _rt: &R,

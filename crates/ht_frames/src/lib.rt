@@ -40,7 +40,7 @@ pub use frames::Frames;
 pub use gated::{BesideFrames, run_gated};
 pub use gathering::book_frames;
 pub use ht_results::Line;
-pub use kind::{Kind, Together};
+pub use kind::{Kind, TogetherKind};
 pub use list_book::ListBook;
 pub use receiver::Receiver;
 pub use receiver_together::{ReceiverTogether, gather_block};

@@ -15,7 +15,7 @@ use Rattle.ht_clause18.specs.Rates.{modulation_of}
 use Rattle.ht_rounding.specs.declared.levels.Levels.{Levels}
 use Rattle.ht_rounding.specs.declared.levels.Levels.TheVariants.{One, Two, Four, Eight}
 use Rattle.ht_rounding.specs.declared.streams.Channel.{Channel}
-use Rattle.ht_rounding.specs.declared.streams.Samples.{Samples}
+use Rattle.ht_rounding.specs.declared.streams.SampleLanes.{SampleLanes}
 use Rattle.ht_rounding.specs.InLanes.{IsInLane, axes_of as lane_axes}
 use Rattle.ht_rounding.specs.Labels.{i_levels, q_levels}
 use Rattle.ht_rounding.specs.Loading.{IsWord}
@@ -64,7 +64,7 @@ one-grid m = record {
 }
 
 -- a data subcarrier is in its lane
-pub in-lane : (m : Modulation) (channel : Channel) (samples : Samples) (s : SymbolView) (k c : ℕ) → modulation_of s.head.rate ≡ m → IsPlainAt s c
+pub in-lane : (m : Modulation) (channel : Channel) (samples : SampleLanes) (s : SymbolView) (k c : ℕ) → modulation_of s.head.rate ≡ m → IsPlainAt s c
     → IsCut (slice_index channel.first.diagonal k) (slice_index_or s.diagonals c 0)
     → IsWord (slice_index samples.first.re k) (slice_index_or s.samples c no_sample).re
     → IsWord (slice_index samples.first.im k) (slice_index_or s.samples c no_sample).im

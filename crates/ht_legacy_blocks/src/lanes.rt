@@ -14,7 +14,7 @@ ghost use Rattle.ht_legacy_blocks.specs.Lanes.{IsCut, IsPlainAt};
 use crate::symbol::LegacySymbol;
 use ht_clause18::legacy_carrier;
 use ht_rate::{Carrier, Modulation};
-use ht_rounding::{Channel, Eight, Labelled, Parts, RowLanes, Samples, label_lanes};
+use ht_rounding::{Channel, Eight, Labelled, Parts, RowLanes, SampleLanes, label_lanes};
 use std::simd::prelude::*;
 
 // The greatest diagonal that a lane takes.
@@ -157,14 +157,14 @@ fn channel(symbol: &LegacySymbol, first: u8) -> Channel
 
 // What was received on eight subcarriers, from one on.
 #[inline(always)]
-fn samples(symbol: &LegacySymbol, first: u8) -> Samples
+fn samples(symbol: &LegacySymbol, first: u8) -> SampleLanes
     requires { first + 8 ≤ carriers }
     ensures re { (k : ℕ) → k < 8 → IsWord (slice_index result.first.re k) (slice_index_or symbol.now.samples (first + k) no_sample).re }
     ensures im { (k : ℕ) → k < 8 → IsWord (slice_index result.first.im k) (slice_index_or symbol.now.samples (first + k) no_sample).im }
 {
     let none = u32x8::splat(0);
     let nothing = Parts { re: none, im: none };
-    Samples {
+    SampleLanes {
         first: Parts {
             re: re_lanes(symbol, first),
             im: im_lanes(symbol, first),

@@ -9,7 +9,7 @@ ghost use Rattle.ht_legacy_rx.specs.Labelling.{one_label};
 use ht_clause18::{LegacyRate, legacy_carrier};
 use ht_eights::{LabelKind, found_by};
 use ht_feed::Gate;
-use ht_frames::{Kind, Together};
+use ht_frames::{Kind, TogetherKind};
 use ht_legacy_blocks::LegacyFrameHead;
 use ht_legacy_inverse::legacy_decode_frame;
 use ht_metric::{Job, Vector};
@@ -183,4 +183,4 @@ impl LabelKind for LegacyLabels {
 }
 
 /// One codeword, decoded in one thread.
-impl Together for LegacyLabels {}
+impl TogetherKind for LegacyLabels {}

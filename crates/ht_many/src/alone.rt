@@ -22,19 +22,19 @@ use std::alloc::{AllocError, Global};
 /// This thread receives captures, and runs every job between the two calls of the gate. At most `window` jobs are due at a
 /// time, of all captures together; no clause says so.
 #[derive(Drop)]
-pub(crate) struct Alone<'g, G> {
+pub(crate) struct AloneReceiver<'g, G> {
     alloc: Global,
     window: u16,
     gate: &'g G,
     ghost due: { IsWindowSize window },
 }
 
-impl<'g, G: Gate> Alone<'g, G> {
+impl<'g, G: Gate> AloneReceiver<'g, G> {
     /// This thread, with a window and a gate.
-    pub(crate) fn new(alloc: Global, window: u16, gate: &'g G) -> Alone<'g, G>
+    pub(crate) fn new(alloc: Global, window: u16, gate: &'g G) -> AloneReceiver<'g, G>
         requires window { IsWindowSize window }
     {
-        Alone {
+        AloneReceiver {
             alloc,
             window,
             gate,

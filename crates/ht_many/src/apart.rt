@@ -5,7 +5,7 @@ ghost use Rattle.ht_io.specs.Writing.{Growing};
 ghost use Rattle.ht_results.specs.Texts.{rx_text};
 ghost use Rattle.ht_many.specs.Apart.{AreReceived, HoldsText, captures_in, held_all, texts_in};
 
-use crate::alone::Alone;
+use crate::alone::AloneReceiver;
 use ht_bundles::Bundled;
 use ht_feed::Gate;
 use ht_io::GrowSink;
@@ -57,7 +57,7 @@ fn text_of<G: Gate>(alloc: Global, window: u16, capture: Bundled, gate: &G) -> O
     let Ok(()) = captures.push(capture) else {
         return None;
     };
-    match Alone::new(alloc, window, gate).texts(captures) {
+    match AloneReceiver::new(alloc, window, gate).texts(captures) {
         Ok(mut sinks) => sinks.pop(),
         Err(_) => None,
     }

@@ -6,7 +6,7 @@ ghost use Rattle.ht_runs.specs.declared.faults.RunFault.TheVariants.{Write};
 ghost use Rattle.ht_many.specs.Several.{devices};
 ghost use Rattle.ht_many.specs.Receiving.{ReceivesBundle, ReceivesEach};
 
-use crate::alone::Alone;
+use crate::alone::AloneReceiver;
 use crate::bundle::put_texts;
 use crate::crew::Crew;
 use crate::many_end::ManyEnd;
@@ -38,7 +38,7 @@ pub fn many_alone<S: Source, K: Sink, G: Gate>(
     requires pairs { length sinks.old ≡ length sources.old }
     ensures { ReceivesEach S.shown K.shown result (devices sources.old sinks.old) (devices sources.new sinks.new) }
 {
-    Alone::new(alloc, window, gate).receive(sources, sinks)
+    AloneReceiver::new(alloc, window, gate).receive(sources, sinks)
 }
 
 /// Does as [`many_alone`], with one crew of 1 to 64 workers for all captures, of which the caller is one. The caller alone
@@ -87,7 +87,7 @@ pub fn many_bundle_alone<S: Source, K: Sink, G: Gate>(
     ensures reads_later { IsLater (S.shown source.old) (S.shown source.new) }
     ensures puts_later { IsLater (K.shown sink.old) (K.shown sink.new) }
 {
-    let alone = Alone::new(alloc, window, gate);
+    let alone = AloneReceiver::new(alloc, window, gate);
     let captures = read_bundle(alloc, source)?;
     let texts = alone.texts(captures)?;
     put_texts(alloc, &texts, sink)

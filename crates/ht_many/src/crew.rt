@@ -8,7 +8,7 @@ ghost use Rattle.ht_many.specs.Several.{devices};
 ghost use Rattle.ht_many.specs.CaptureLanes.{AreOpen};
 ghost use Rattle.ht_many.specs.Receiving.{ReceivesEach};
 
-use crate::alone::Alone;
+use crate::alone::AloneReceiver;
 use crate::apart::{are_even, texts_apart};
 use crate::bundle::{have_text, sinks_of, sources_of};
 use crate::capture_lane::{CrewLane, open_crew_lanes};
@@ -103,7 +103,7 @@ impl<'c, R, G> Crew<'c, R, G> {
 }
 
 impl<'c, R: Threads + Wait + Sync, G: Gate + Sync> Crew<'c, R, G> {
-    // Does as `Alone::receive_lanes`, and the jobs are run by the workers, who decode the whole frames that they find there
+    // Does as `AloneReceiver::receive_lanes`, and the jobs are run by the workers, who decode the whole frames that they find there
     // before they look for jobs.
     fn receive_lanes<S: Source, K: Sink>(
         &self,
@@ -140,7 +140,7 @@ impl<'c, R: Threads + Wait + Sync, G: Gate + Sync> Crew<'c, R, G> {
         }
     }
 
-    /// Does as [`Alone::receive`], and the workers decode whole frames of 100 octets or more of all captures. The caller decodes
+    /// Does as [`AloneReceiver::receive`], and the workers decode whole frames of 100 octets or more of all captures. The caller decodes
     /// shorter ones, one that is whole with the last block due of a capture whose end was read, and those that no worker has
     /// begun when it waits for them; where it is the only worker, all.
     pub(crate) fn receive<S: Source, K: Sink>(
@@ -152,7 +152,7 @@ impl<'c, R: Threads + Wait + Sync, G: Gate + Sync> Crew<'c, R, G> {
         ensures { ReceivesEach S.shown K.shown result (devices sources.old sinks.old) (devices sources.new sinks.new) }
     {
         if self.workers == 1 {
-            return Alone::new(self.alloc, self.window, self.gate).receive(sources, sinks);
+            return AloneReceiver::new(self.alloc, self.window, self.gate).receive(sources, sinks);
         }
         let frames = Frames::new(self.alloc);
         let mut lanes = match open_crew_lanes(

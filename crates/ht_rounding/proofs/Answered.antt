@@ -13,7 +13,7 @@ use Rattle.std.proofs.lemmas.Simd.{length-replicate}
 use Rattle.ht_rounding.specs.declared.levels.Levels.{Levels}
 use Rattle.ht_rounding.specs.declared.streams.Channel.{Channel}
 use Rattle.ht_rounding.specs.declared.streams.Four.{Four}
-use Rattle.ht_rounding.specs.declared.streams.Samples.{Samples}
+use Rattle.ht_rounding.specs.declared.streams.SampleLanes.{SampleLanes}
 use Rattle.ht_rounding.specs.InLanes.{AreFew, Finds, IsInLane, axes_of, points_at}
 use Rattle.ht_rounding.specs.Loading.{HaveSmall, IsLoaded, IsPlain, no_found, no_job}
 
@@ -28,7 +28,7 @@ third-few (suc zero) a b c d some few = absurd (omega (arith, some))
 third-few (suc (suc zero)) a b c d some few = absurd (omega (arith, some))
 third-few (suc (suc (suc n))) a b c d some few = few.1.1.0
 
-pub in-lane : (i q : Levels) (channel : Channel) (samples : Samples) (k n : ℕ) (job : JobView) (grid : List Axes) → IsJob job → job.grid ≡ grid
+pub in-lane : (i q : Levels) (channel : Channel) (samples : SampleLanes) (k n : ℕ) (job : JobView) (grid : List Axes) → IsJob job → job.grid ≡ grid
     → grid ≡ replicate n (axes_of i q)
     → HaveSmall job.system → IsLoaded channel samples k job.system → IsInLane i q channel samples k n job
 in-lane i q channel samples k n job grid valid same full small rows =
@@ -64,7 +64,7 @@ one-more jobs founds k job found eight lt before e is = (
 )
 
 -- a job that a lane can answer is in its lane
-pub plain-in-lane : (i q : Levels) (channel : Channel) (samples : Samples) (k n : ℕ) (job : JobView) → IsPlain i q n job → IsLoaded channel samples k job.system
+pub plain-in-lane : (i q : Levels) (channel : Channel) (samples : SampleLanes) (k n : ℕ) (job : JobView) → IsPlain i q n job → IsLoaded channel samples k job.system
     → IsInLane i q channel samples k n job
 plain-in-lane i q channel samples k n job plain loaded = in-lane i q channel samples k n job _ plain.valid plain.grid refl plain.small loaded
 

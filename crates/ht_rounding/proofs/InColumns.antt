@@ -17,7 +17,7 @@ use Rattle.ht_rounding.specs.declared.loading.Part.TheVariants.{EntryRe, EntryIm
 use Rattle.ht_rounding.specs.declared.rows.Parts.{Parts}
 use Rattle.ht_rounding.specs.declared.streams.Channel.{Channel}
 use Rattle.ht_rounding.specs.declared.streams.RowLanes.{RowLanes}
-use Rattle.ht_rounding.specs.declared.streams.Samples.{Samples}
+use Rattle.ht_rounding.specs.declared.streams.SampleLanes.{SampleLanes}
 use Rattle.ht_rounding.specs.Columns.{AreColumns, AreEntries, AreRows, ArePlain, EntriesReach, HasEach}
 use Rattle.ht_rounding.specs.Columns.{HasLeg, HasLegs, HasSample, HasSamples, IsLike, IsLikePlain, Reaches, RowReaches}
 use Rattle.ht_rounding.specs.InLanes.{IsInLane}
@@ -97,7 +97,7 @@ row-like lanes y k number xs ys e leg heard =
     (re-like 1 number xs ys _ e leg.second_re) (im-like 1 number xs ys _ e leg.second_im)
     (re-like 2 number xs ys _ e leg.third_re) (im-like 2 number xs ys _ e leg.third_im) heard.re heard.im
 
-pub legs-loaded : (channel : Channel) (samples : Samples) (k : ℕ) (xs ys : List Row) → legs ys ≡ legs xs → HasLegs channel k xs → HasSamples samples k ys
+pub legs-loaded : (channel : Channel) (samples : SampleLanes) (k : ℕ) (xs ys : List Row) → legs ys ≡ legs xs → HasLegs channel k xs → HasSamples samples k ys
     → IsLoaded channel samples k ys
 legs-loaded channel samples k xs ys e all heard few small =
     rows-loaded _ _ _ _ _ _ _ _ k ys few small (row-like channel.first samples.first k 1 xs ys e all.first heard.first)
@@ -119,7 +119,7 @@ plain-like i q n other job like plain =
     }
 
 -- what lanes have of the job that has so many others before it they have of each job like it
-pub job-in-lane : (columns : Columns) (streams : ℕ) (channel : Channel) (samples : Samples) (at k : ℕ) (jobs : List JobView) (job : JobView) (n : ℕ)
+pub job-in-lane : (columns : Columns) (streams : ℕ) (channel : Channel) (samples : SampleLanes) (at k : ℕ) (jobs : List JobView) (job : JobView) (n : ℕ)
     → streams ≡ columns.streams → AreColumns jobs columns → at + 8 ≤ length jobs → k < 8 → IsLikePlain columns (slice_index_or jobs (at + k) no_job) job
     → HasSamples samples k job.system → n ≡ slice_index columns.plain.items (at + k) → HasLegs channel k (slice_index_or jobs (at + k) no_job).system → 0 < n
     → IsInLane (i_levels columns.modulation) (q_levels columns.modulation) channel samples k streams job

@@ -12,7 +12,7 @@ use Rattle.ht_rounding.specs.declared.loading.Part.TheVariants.{Diagonal, Sample
 use Rattle.ht_rounding.specs.declared.rows.Parts.{Parts}
 use Rattle.ht_rounding.specs.declared.streams.Channel.{Channel}
 use Rattle.ht_rounding.specs.declared.streams.RowLanes.{RowLanes}
-use Rattle.ht_rounding.specs.declared.streams.Samples.{Samples}
+use Rattle.ht_rounding.specs.declared.streams.SampleLanes.{SampleLanes}
 use Rattle.ht_rounding.specs.Labels.{i_levels, q_levels}
 use Rattle.ht_rounding.specs.Loading.{IsPartOf, IsPlain, no_job}
 
@@ -93,7 +93,7 @@ pub record HasSample (y : Parts) (k number : ℕ) (rows : List Row) : Type 0 whe
   pub re : IsPartOf SampleRe number rows (slice_index y.re k)
   pub im : IsPartOf SampleIm number rows (slice_index y.im k)
 
-pub record HasSamples (samples : Samples) (k : ℕ) (rows : List Row) : Type 0 where
+pub record HasSamples (samples : SampleLanes) (k : ℕ) (rows : List Row) : Type 0 where
   pub first : HasSample samples.first k 1 rows
   pub second : HasSample samples.second k 2 rows
   pub third : HasSample samples.third k 3 rows

@@ -10,7 +10,7 @@ use Rattle.ht_rounding.specs.declared.rows.Parts.{Parts}
 use Rattle.ht_rounding.specs.declared.rows.Reached.{Reached}
 use Rattle.ht_rounding.specs.declared.streams.RowLanes.{RowLanes}
 use Rattle.ht_rounding.specs.declared.streams.Channel.{Channel}
-use Rattle.ht_rounding.specs.declared.streams.Samples.{Samples}
+use Rattle.ht_rounding.specs.declared.streams.SampleLanes.{SampleLanes}
 use Rattle.ht_rounding.specs.declared.streams.Four.{Four}
 use Rattle.ht_rounding.specs.declared.levels.Levels.{Levels}
 use Rattle.ht_rounding.specs.Proposals.{full, AreSmall}
@@ -41,7 +41,7 @@ AreRowsIn (l ∷ lanes) [] k (row ∷ rows) = ⊥
 AreRowsIn (l ∷ lanes) (y ∷ ys) k (row ∷ rows) = IsRowIn l y k (length rows) row × AreRowsIn lanes ys k rows
 
 -- lane k has a job of this number of streams, each with all these levels
-pub record IsInLane (i q : Levels) (channel : Channel) (samples : Samples) (k n : ℕ) (job : JobView) : Type 0 where
+pub record IsInLane (i q : Levels) (channel : Channel) (samples : SampleLanes) (k n : ℕ) (job : JobView) : Type 0 where
   pub valid : IsJob job
   pub streams : length job.system ≡ n
   pub grid : job.grid ≡ replicate n (axes_of i q)

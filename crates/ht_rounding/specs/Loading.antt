@@ -10,7 +10,7 @@ use Rattle.ht_metric.specs.Jobs.{JobView, IsJob, near}
 use Rattle.ht_rounding.specs.declared.levels.Levels.{Levels}
 use Rattle.ht_rounding.specs.declared.streams.Channel.{Channel}
 use Rattle.ht_rounding.specs.declared.streams.Four.{Four}
-use Rattle.ht_rounding.specs.declared.streams.Samples.{Samples}
+use Rattle.ht_rounding.specs.declared.streams.SampleLanes.{SampleLanes}
 use Rattle.ht_metric.specs.declared.found.Found.{Found}
 use Rattle.ht_rounding.specs.declared.loading.Part.{Part}
 use Rattle.ht_rounding.specs.declared.loading.Part.TheVariants.{Diagonal, SampleRe, SampleIm, EntryRe, EntryIm}
@@ -68,7 +68,7 @@ abbrev pub HaveStreams : ℕ → List JobView → Type 0
 HaveStreams streams jobs = (k : ℕ) → k < 8 → length (slice_index_or jobs k no_job).system ≡ streams
 
 -- lane k has these rows, at most four, where their diagonals are below 2^14
-abbrev pub IsLoaded : Channel → Samples → ℕ → List Row → Type 0
+abbrev pub IsLoaded : Channel → SampleLanes → ℕ → List Row → Type 0
 IsLoaded channel samples k rows = length rows ≤ 4 → HaveSmall rows → AreRowsIn (channel.first ∷ channel.second ∷ channel.third ∷ channel.fourth ∷ [])
     (samples.first ∷ samples.second ∷ samples.third ∷ samples.fourth ∷ []) k rows
 

@@ -13,7 +13,7 @@ ghost use Rattle.ht_rounding.specs.Proposals.{AreSmall};
 use crate::eight::{Eight, Labelled, label_lanes, levels_by, plainness, unsure};
 use crate::loading::{Part, part_of};
 use crate::rows::Parts;
-use crate::streams::{Channel, RowLanes, Samples};
+use crate::streams::{Channel, RowLanes, SampleLanes};
 use crate::words::lesser;
 use ht_metric::Job;
 use ht_rate::Modulation;
@@ -205,7 +205,7 @@ fn channel_lanes(columns: &Columns, streams: u8, at: usize) -> Channel
 
 // Eight subcarriers of so many streams, on which this was received.
 #[inline(always)]
-fn eight_of(columns: &Columns, streams: u8, at: usize, samples: &Samples) -> Eight
+fn eight_of(columns: &Columns, streams: u8, at: usize, samples: &SampleLanes) -> Eight
     requires streams { streams ≡ columns.now.streams }
     requires reach { Reaches (at + 8) columns.now }
     ensures small { IsSmall result.channel }
@@ -222,7 +222,7 @@ fn eight_of(columns: &Columns, streams: u8, at: usize, samples: &Samples) -> Eig
 
 // The labels of eight subcarriers of so many streams.
 #[inline(always)]
-fn labels_of(columns: &Columns, streams: u8, at: usize, samples: &Samples) -> Labelled
+fn labels_of(columns: &Columns, streams: u8, at: usize, samples: &SampleLanes) -> Labelled
     requires streams { streams ≡ columns.now.streams }
     requires reach { Reaches (at + 8) columns.now }
     ensures streams { result.streams ≡ columns.now.streams }
@@ -236,7 +236,7 @@ fn labels_of(columns: &Columns, streams: u8, at: usize, samples: &Samples) -> La
 
 // The labels of eight subcarriers, from the one on that has `at` others before it, on which this was received. There is code of
 // its own for each number of streams.
-fn labels_by(columns: &Columns, at: usize, samples: &Samples) -> Labelled
+fn labels_by(columns: &Columns, at: usize, samples: &SampleLanes) -> Labelled
     requires { Reaches (at + 8) columns.now }
     ensures streams { result.streams ≡ columns.now.streams }
     ensures labels { (jobs : List JobView) (k : ℕ) (job : JobView) → AreColumns jobs columns.now → at + 8 ≤ length jobs → k < 8
@@ -298,7 +298,7 @@ impl Columns {
     /// distances, in the lanes that are sure (IEEE Std 802.11-2012, clause 20.3.11.9). `samples` is what was received on them.
     /// Where the frame's modulation is another one, no lane is sure. Else no clause tells which lanes are: a body that is never
     /// sure would be proved too, and only be slow.
-    pub fn labels(&self, modulation: Modulation, at: usize, samples: &Samples) -> Labelled
+    pub fn labels(&self, modulation: Modulation, at: usize, samples: &SampleLanes) -> Labelled
         requires { Reaches (at + 8) self.now }
         ensures some { 1 ≤ result.streams }
         ensures few { result.streams ≤ 4 }

@@ -10,7 +10,7 @@ use crate::block::{has_small_diagonals, have_streams, ladder_of};
 use crate::labels::labels;
 use crate::levels::Levels;
 use crate::loading::load;
-use crate::streams::{Channel, Samples, detect_four, detect_one, detect_three, detect_two};
+use crate::streams::{Channel, SampleLanes, detect_four, detect_one, detect_three, detect_two};
 use crate::words::lesser;
 use ht_metric::Job;
 use ht_pam::{Grid, Ladder};
@@ -23,7 +23,7 @@ pub struct Eight {
     /// Their channels.
     pub channel: Channel,
     /// What was received.
-    pub samples: Samples,
+    pub samples: SampleLanes,
     /// Positive in the lanes whose jobs have all points of their constellations, and diagonals below 2^14.
     pub plain: u32x8,
 }

@@ -28,5 +28,6 @@ pub use loading::word;
 pub use only::find_only;
 pub use rows::{Parts, Reached};
 pub use streams::{
-    Channel, Four, RowLanes, Samples, Three, Two, detect_four, detect_one, detect_three, detect_two,
+    Channel, Four, RowLanes, SampleLanes, Three, Two, detect_four, detect_one, detect_three,
+    detect_two,
 };

@@ -6,7 +6,7 @@ ghost use Rattle.ht_rounding.specs.Proposals.{AreSmall};
 ghost use Rattle.ht_rounding.specs.Loading.{HaveDiagonals, HaveParts, HaveStreams, IsLoaded, IsPartOf, IsRowOf, IsShort, IsWord, no_job};
 
 use crate::rows::Parts;
-use crate::streams::{Channel, RowLanes, Samples};
+use crate::streams::{Channel, RowLanes, SampleLanes};
 use crate::words::lesser;
 use ht_metric::Job;
 use std::simd::prelude::*;
@@ -183,7 +183,7 @@ fn load_row(jobs: &[Job], streams: u8, row: u8) -> RowLoad
 #[derive(Clone, Copy)]
 pub(crate) struct Loaded {
     pub channel: Channel,
-    pub samples: Samples,
+    pub samples: SampleLanes,
 }
 
 /// Eight jobs of so many streams in lanes. Rows that they haven't are 0.
@@ -205,7 +205,7 @@ pub(crate) fn load(jobs: &[Job], streams: u8) -> Loaded
             third: third.row,
             fourth: fourth.row,
         },
-        samples: Samples {
+        samples: SampleLanes {
             first: first.samples,
             second: second.samples,
             third: third.samples,

@@ -37,7 +37,7 @@ pub struct Channel {
 
 /// What was received through eight channels, row by row.
 #[derive(Clone, Copy, Debug)]
-pub struct Samples {
+pub struct SampleLanes {
     /// The samples of row 1.
     pub first: Parts,
     /// The samples of row 2.
@@ -63,7 +63,7 @@ fn last_row(i: Levels, q: Levels, target: Parts, d: u32x8) -> Reached
 /// Eight jobs of one stream: where something is to spare in the end, the lane has the job's first nearest vector and its
 /// distance.
 #[inline(always)]
-pub fn detect_one(i: Levels, q: Levels, channel: &Channel, samples: &Samples) -> Reached
+pub fn detect_one(i: Levels, q: Levels, channel: &Channel, samples: &SampleLanes) -> Reached
     requires { IsSmall channel.now }
     ensures { (k : ℕ) (job : JobView) → k < 8 → 0 < slice_index result.spare k → IsInLane i q channel.now samples.now k 1 job
         → Finds (point_at result k ∷ []) (slice_index result.rho k) job }
@@ -82,7 +82,7 @@ pub struct Two {
 
 /// Eight jobs of two streams.
 #[inline(always)]
-pub fn detect_two(i: Levels, q: Levels, channel: &Channel, samples: &Samples) -> Two
+pub fn detect_two(i: Levels, q: Levels, channel: &Channel, samples: &SampleLanes) -> Two
     requires { IsSmall channel.now }
     ensures { (k : ℕ) (job : JobView) → k < 8 → 0 < slice_index result.first.spare k → IsInLane i q channel.now samples.now k 2 job
         → Finds (point_at result.first k ∷ point_at result.second k ∷ []) (slice_index result.first.rho k) job }
@@ -107,7 +107,7 @@ pub struct Three {
 
 /// Eight jobs of three streams.
 #[inline(always)]
-pub fn detect_three(i: Levels, q: Levels, channel: &Channel, samples: &Samples) -> Three
+pub fn detect_three(i: Levels, q: Levels, channel: &Channel, samples: &SampleLanes) -> Three
     requires { IsSmall channel.now }
     ensures { (k : ℕ) (job : JobView) → k < 8 → 0 < slice_index result.first.spare k → IsInLane i q channel.now samples.now k 3 job
         → Finds (point_at result.first k ∷ point_at result.second k ∷ point_at result.third k ∷ []) (slice_index result.first.rho k) job }
@@ -142,7 +142,7 @@ pub struct Four {
 
 /// Eight jobs of four streams.
 #[inline(always)]
-pub fn detect_four(i: Levels, q: Levels, channel: &Channel, samples: &Samples) -> Four
+pub fn detect_four(i: Levels, q: Levels, channel: &Channel, samples: &SampleLanes) -> Four
     requires { IsSmall channel.now }
     ensures { (k : ℕ) (job : JobView) → k < 8 → 0 < slice_index result.first.spare k → IsInLane i q channel.now samples.now k 4 job
         → Finds (point_at result.first k ∷ point_at result.second k ∷ point_at result.third k ∷ point_at result.fourth k ∷ [])

@@ -3,8 +3,8 @@ ghost use Rattle.std.specs.Prelude.{◌≡◌, ◌*◌, ◌^◌, ◌<◌, ◌≤
 ghost use Rattle.ht_capture.specs.Parts.{jobs_of};
 ghost use Rattle.ht_results.specs.JobTexts.{job_lines};
 
-use crate::front::Front;
 use crate::lane_lines::{LANES, Written, write_in_lanes};
+use crate::line_start::LineStart;
 use crate::line_texts::AllTexts;
 use crate::lines::{LINE, write_line};
 use ht_capture_blocks::CaptureBlock;
@@ -103,7 +103,7 @@ fn write_lines<B: Jobs, G: Gate>(into: &mut [u8], block: &B, gate: &G) -> Writte
     ensures within { result.start ≤ length into.new }
     ensures lines { drop result.start into.new ≡ job_lines (B.jobs block.now) }
 {
-    let mut front = Front::of(0, 0);
+    let mut front = LineStart::of(0, 0);
     let mut start = into.len();
     let mut hard = false;
     let size = block.size();

@@ -7,7 +7,7 @@ ghost use Rattle.ht_results.specs.Folding.{label_at, label_plan, result_of, with
 use ht_capture::FrameHead;
 use ht_eights::{LabelKind, found_by};
 use ht_feed::Gate;
-use ht_frames::{Kind, Together};
+use ht_frames::{Kind, TogetherKind};
 use ht_inverse::{Alone, Decoder, Together as TwoThreads};
 use ht_metric::{Job, Vector};
 use ht_rate::{Carrier, Modulation};
@@ -169,7 +169,7 @@ impl LabelKind for HardLabels {
     ghost labels = { λ head job as_many. refl };
 }
 
-impl Together for HardLabels {
+impl TogetherKind for HardLabels {
     /// The codewords of two encoders are decoded in two threads.
     fn decode_together<R: Threads>(
         rt: &R,

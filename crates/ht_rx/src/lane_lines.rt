@@ -13,7 +13,7 @@ ghost use Rattle.ht_text.specs.Lines.{spaced};
 ghost use Rattle.ht_rx.specs.LaneLines.{AreLines, HasLabels, found_in};
 
 use crate::block_lines::is_hard_as_last;
-use crate::front::Front;
+use crate::line_start::LineStart;
 use crate::line_texts::{AllTexts, Texts};
 use crate::lines::{LINE, write_line};
 use crate::pieces::write_octet;
@@ -76,7 +76,7 @@ fn write_points(into: &mut [u8], end: usize, texts: &Texts, lanes: &Labelled, k:
 fn write_found(
     into: &mut [u8],
     end: usize,
-    front: &mut Front,
+    front: &mut LineStart,
     texts: &Texts,
     place: Place,
     lanes: &Labelled,
@@ -117,7 +117,7 @@ fn carries_data(rate: &Rate, carrier: u8) -> bool
 fn write_alone(
     into: &mut [u8],
     end: usize,
-    front: &mut Front,
+    front: &mut LineStart,
     block: &CaptureBlock,
     at: u16,
 ) -> Written
@@ -142,7 +142,7 @@ fn write_alone(
 fn write_lane(
     into: &mut [u8],
     end: usize,
-    front: &mut Front,
+    front: &mut LineStart,
     texts: &Texts,
     block: &CaptureBlock,
     lanes: &Labelled,
@@ -174,7 +174,7 @@ fn write_lane(
 fn write_lanes(
     into: &mut [u8],
     end: usize,
-    front: &mut Front,
+    front: &mut LineStart,
     texts: &Texts,
     block: &CaptureBlock,
     at: u16,
@@ -216,7 +216,7 @@ pub(crate) fn write_in_lanes(into: &mut [u8], texts: &AllTexts, block: &CaptureB
     ensures lines { AreLines block.now.block 0 result.start into.new }
 {
     let texts = texts.of(block.head().rate.modulation());
-    let mut front = Front::of(0, 0);
+    let mut front = LineStart::of(0, 0);
     let mut start = into.len();
     let mut hard = false;
     let mut left = block.size();

@@ -35,9 +35,9 @@
 
 mod block_lines;
 mod carrier_text;
-mod front;
 mod hard_labels;
 mod lane_lines;
+mod line_start;
 mod line_texts;
 mod lines;
 mod lister;

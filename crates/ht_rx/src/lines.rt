@@ -3,7 +3,7 @@ ghost use Rattle.std.specs.Prelude.{◌≡◌, ◌+◌, ◌≤◌, ◌++◌, dro
 ghost use Rattle.ht_text.specs.Lines.{spaced};
 ghost use Rattle.ht_results.specs.JobTexts.{levels_of, line_at};
 
-use crate::front::Front;
+use crate::line_start::LineStart;
 use crate::pieces::{write_distance, write_level, write_octet};
 use ht_metric::{Found, Place, Vector};
 use itoa::write_digits;
@@ -18,7 +18,7 @@ pub(crate) const LINE: usize = 105;
 pub(crate) fn write_line(
     into: &mut [u8],
     end: usize,
-    front: &mut Front,
+    front: &mut LineStart,
     place: Place,
     found: &Found,
 ) -> usize

@@ -11,7 +11,7 @@ use crate::soft_result::SoftResult;
 use crate::weighing::{push_weights, weights_of_job};
 use ht_capture::FrameHead;
 use ht_feed::{Gate, detect};
-use ht_frames::{Kind, Together};
+use ht_frames::{Kind, TogetherKind};
 use ht_metric::Job;
 use ht_rate::Carrier;
 use ht_results::{jobs_in, kind, no_head, same_head as same_heads};
@@ -150,4 +150,4 @@ impl Kind for Weights {
     }
 }
 
-impl Together for Weights {}
+impl TogetherKind for Weights {}

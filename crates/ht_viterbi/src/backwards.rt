@@ -4,15 +4,15 @@ ghost use Rattle.ht_conv.specs.Puncturing.{sent_count};
 ghost use Rattle.ht_viterbi.specs.Inputs.{IsFound, tail};
 ghost use Rattle.ht_viterbi.specs.Trellis.{least_from, AreChoices, word_steps};
 
+use crate::coded_place::CodedPlace;
 use crate::codeword::Cheapest;
-use crate::place::Place;
 use crate::walk::forwards;
 use ht_bits::Bits;
 use ht_rate::Pattern;
 use std::alloc::{AllocError, Global};
 
 /// A way from the last step to the first.
-pub(crate) trait Backwards<P: Place> {
+pub(crate) trait Backwards<P: CodedPlace> {
     /// Fills in the choices of all steps, and gives the least cost from state 0.
     fn backwards(pattern: Pattern, received: &[P], choices: &mut [u64]) -> u64
         requires count { length received.now ≡ sent_count pattern (length choices.old) }
@@ -23,7 +23,7 @@ pub(crate) trait Backwards<P: Place> {
 
 /// A punctured codeword as it was received: the places of the coded bits that the pattern keeps of its steps.
 #[derive(Drop)]
-pub(crate) struct Word<'a, P: Place> {
+pub(crate) struct Word<'a, P: CodedPlace> {
     pub(crate) steps: u32,
     pub(crate) pattern: Pattern,
     pub(crate) received: &'a [P],
@@ -32,7 +32,7 @@ pub(crate) struct Word<'a, P: Place> {
     pub(crate) ghost places: { length received.now ≡ sent_count pattern steps },
 }
 
-impl<'a, P: Place> Word<'a, P> {
+impl<'a, P: CodedPlace> Word<'a, P> {
     /// Decodes it: the way `W` backwards, and the one that the choices leave forwards.
     pub(crate) fn decode<W: Backwards<P>>(&self, alloc: Global) -> Result<Cheapest, AllocError>
         ensures { IfOk result (λ c. IsFound P.cost self.now.steps self.now.pattern self.now.received.now c.input c.cost) }

@@ -2,7 +2,7 @@
 ghost use Rattle.std.specs.Prelude.{◌≡◌, ◌≤◌, ◌^◌, Bool};
 ghost use Rattle.ht_viterbi.specs.Trellis.{bit_cost, costs_of, free_bit};
 
-use crate::place::Place;
+use crate::coded_place::CodedPlace;
 
 /// What a coded bit costs if it is 0, and if it is 1.
 #[derive(Clone, Copy)]
@@ -20,7 +20,7 @@ impl BitCosts {
     }
 
     /// The costs of a bit at a place.
-    pub(crate) fn at<P: Place>(place: P) -> BitCosts
+    pub(crate) fn at<P: CodedPlace>(place: P) -> BitCosts
         ensures value { result ≡ costs_of P.cost place }
         ensures bound { (bit : Bool) → bit_cost result bit ≤ 2 ^ 32 }
     {

@@ -6,7 +6,7 @@ ghost use Rattle.ht_nearest.specs.Nearest.{IsOrder, Enumerates};
 ghost use Rattle.ht_viterbi.specs.Decoded.{cheapest, decoded, terminated_inputs};
 ghost use Rattle.ht_viterbi.specs.Inputs.{tail, is_terminated, is_before, distance, IsCheapest, IsDecoded};
 
-use crate::place::Place;
+use crate::coded_place::CodedPlace;
 
 /// Terminated inputs have as many bits as there are steps, and end with six zeros.
 pub fn terminated()
@@ -45,7 +45,7 @@ pub fn decoded_is()
 {}
 
 /// What is cheapest is a function of the places.
-pub fn cheapest_is<P: Place>()
+pub fn cheapest_is<P: CodedPlace>()
     ensures answer { (steps : ℕ) (p : Pattern) (received : List P) (u : List Bool)
         → tail ≤ steps → IsCheapest P.cost steps p received u → cheapest P.cost steps p received ≡ u }
     ensures some { (steps : ℕ) (p : Pattern) (received : List P)

@@ -1,6 +1,6 @@
 //! The Viterbi decoder of the convolutional code (IEEE Std 802.11-2012, clauses 18.3.5.6 and 20.3.11.6).
 //!
-//! The decoder takes the coded bits that one encoder sent, as they were received. Of each there is a [`Place`], which
+//! The decoder takes the coded bits that one encoder sent, as they were received. Of each there is a [`CodedPlace`], which
 //! says what a 0 and what a 1 cost there. It answers with the encoder's input that explains them best: of all inputs
 //! that end with the tail of six zeros the one whose coded bits cost least, and among those that cost the same the first
 //! one, which has 0 at the first place where two of them differ.
@@ -28,6 +28,7 @@ mod backwards;
 mod bit_costs;
 mod branches;
 mod clean;
+mod coded_place;
 mod codeword;
 mod cost_lanes;
 mod decoder;
@@ -36,7 +37,6 @@ pub mod laws;
 mod lookup;
 mod packed;
 mod pairs;
-mod place;
 mod plain;
 mod received_bit;
 mod rows;
@@ -44,10 +44,10 @@ mod walk;
 mod weights;
 mod words;
 
+pub use coded_place::CodedPlace;
 pub use codeword::{Cheapest, Codeword};
 pub use decoder::{decode, decode_packed, decode_received};
 pub use packed::WORD_PLACES;
-pub use place::Place;
 pub use plain::{decode_places, plain_decode};
 pub use received_bit::ReceivedBit;
 pub use weights::decode_weights;

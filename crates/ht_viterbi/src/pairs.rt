@@ -4,7 +4,7 @@ ghost use Rattle.ht_conv.specs.Puncturing.{kept_count, sent_count};
 ghost use Rattle.ht_viterbi.specs.Trellis.{pair_at, pair_of, output_a, output_b, branch_cost, costs_of, free_bit, moved};
 
 use crate::bit_costs::BitCosts;
-use crate::place::Place;
+use crate::coded_place::CodedPlace;
 use crate::words::is_set;
 use ht_conv::{Kept, kept_at};
 use ht_rate::Pattern;
@@ -28,7 +28,7 @@ pub(crate) fn places_of(kept: Kept) -> usize
 }
 
 // What the two coded bits of a step cost, whose places begin at `start`.
-fn costs_from<P: Place>(received: &[P], start: usize, kept: Kept) -> StepCosts
+fn costs_from<P: CodedPlace>(received: &[P], start: usize, kept: Kept) -> StepCosts
     requires { start + kept_count kept ≤ length received.now }
     ensures value { result ≡ pair_of free_bit kept (map (costs_of P.cost) received.now) start }
     ensures bound { (state : ℕ) (bit : Bool) → branch_cost result state bit ≤ 2 ^ 33 }
@@ -46,7 +46,7 @@ fn costs_from<P: Place>(received: &[P], start: usize, kept: Kept) -> StepCosts
 // What the two coded bits of step `at` cost. `start` is where the places of the step behind it begin, and goes back to where
 // its own do.
 #[inline(always)]
-pub(crate) fn step_at<P: Place>(
+pub(crate) fn step_at<P: CodedPlace>(
     pattern: Pattern,
     received: &[P],
     at: usize,

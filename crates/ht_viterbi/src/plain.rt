@@ -7,9 +7,9 @@ ghost use Rattle.ht_viterbi.specs.Inputs.{IsFound, place_cost, tail};
 ghost use Rattle.ht_viterbi.specs.Trellis.{way, chosen, lesser, StepCosts};
 
 use crate::backwards::{Backwards, Word};
+use crate::coded_place::CodedPlace;
 use crate::codeword::{Cheapest, Codeword};
 use crate::pairs::{StepCosts, cost_of_branch, state_after, step_at};
-use crate::place::Place;
 use crate::words::with_flag;
 use ht_rate::Pattern;
 use std::alloc::{AllocError, Global};
@@ -72,7 +72,7 @@ fn no_costs() -> [u64; 64]
 /// The plain way back through the trellis: one state after the other, with costs of 64 bits.
 pub(crate) struct Plain;
 
-impl<P: Place> Backwards<P> for Plain {
+impl<P: CodedPlace> Backwards<P> for Plain {
     fn backwards(pattern: Pattern, received: &[P], choices: &mut [u64]) -> u64 {
         let steps = choices.len();
         let mut costs = no_costs();
@@ -97,7 +97,7 @@ impl<P: Place> Backwards<P> for Plain {
 /// only refusal is lack of it.
 ///
 /// IEEE Std 802.11-2012, clauses 18.3.5.6 and 20.3.11.6.
-pub fn decode_places<P: Place>(
+pub fn decode_places<P: CodedPlace>(
     alloc: Global,
     steps: u32,
     pattern: Pattern,

@@ -53,12 +53,12 @@ entered false s = []
 
 -- What comes of a walk by its state and the suffixes that are left, and when it may stop. One that goes on through some of them
 -- leaves what comes of it as it is
-module _ {State Stop Outcome : Type 0} (outcome : State → List Suffix → Outcome) (stops : Outcome → State → Stop → Type 0) where
-  abbrev pub Walked : State → List Suffix → State → List Suffix → Result (Unit {0}) Stop → Type 0
+module _ {State Break Outcome : Type 0} (outcome : State → List Suffix → Outcome) (stops : Outcome → State → Break → Type 0) where
+  abbrev pub Walked : State → List Suffix → State → List Suffix → Result (Unit {0}) Break → Type 0
   Walked old before new after (Ok done) = outcome old before ≡ outcome new after
   Walked old before new after (Err stop) = stops (outcome old before) new stop
 
-  abbrev pub Visited : State → Suffix → List Suffix → State → Result Bool Stop → Type 0
+  abbrev pub Visited : State → Suffix → List Suffix → State → Result Bool Break → Type 0
   Visited old s rest new (Ok is_open) = outcome old (s ∷ rest) ≡ outcome new (entered is_open s ++ rest)
   Visited old s rest new (Err stop) = stops (outcome old (s ∷ rest)) new stop
 

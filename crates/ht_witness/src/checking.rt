@@ -9,9 +9,9 @@ ghost use Rattle.ht_witness.specs.Certificates.{Checked, claim_of, fault_of, roo
 use crate::certificate::Certificate;
 use crate::check_fault::CheckFault;
 use crate::claim::Claim;
+use crate::flaw::Flaw;
 use crate::levels::levels_of;
 use crate::off_grid::off_grid;
-use crate::stop::Stop;
 use crate::walk::walk;
 use ht_metric::{Job, distance};
 
@@ -76,12 +76,12 @@ fn fault_of_walk(job: &Job, certificate: &Certificate) -> Option<CheckFault>
 }
 
 // The fault of a walk that stops at a mark.
-fn fault_at(stop: Stop, at: u64) -> CheckFault
+fn fault_at(stop: Flaw, at: u64) -> CheckFault
     ensures { result ≡ fault_at stop at }
 {
     match stop {
-        Stop::Ended => CheckFault::Short(at),
-        Stop::Cut => CheckFault::Early(at),
-        Stop::Beaten => CheckFault::Better(at),
+        Flaw::Ended => CheckFault::Short(at),
+        Flaw::Cut => CheckFault::Early(at),
+        Flaw::Beaten => CheckFault::Better(at),
     }
 }

@@ -5,7 +5,7 @@ ghost use Rattle.ht_witness.specs.declared.check_fault.CheckFault.{CheckFault};
 ghost use Rattle.ht_witness.specs.Walks.{Suffix, IsAt, beats};
 ghost use Rattle.ht_witness.specs.Walking.{fault_here, fault_at};
 
-use crate::stop::Stop;
+use crate::flaw::Flaw;
 use crate::visitor::Visitor;
 
 // A claim about a job, and the marks that are to show it.
@@ -37,7 +37,7 @@ impl<'a> Visitor for Claim<'a> {
     // The place of the next mark.
     type State = usize;
 
-    type Stop = Stop;
+    type Break = Flaw;
 
     ghost Outcome = { Option CheckFault };
 
@@ -51,19 +51,19 @@ impl<'a> Visitor for Claim<'a> {
         levels: &[i8],
         partial: u128,
         at: &mut usize,
-    ) -> Result<bool, Stop> {
+    ) -> Result<bool, Flaw> {
         let Some(is_open) = self.marks.get(*at) else {
-            return Err(Stop::Ended);
+            return Err(Flaw::Ended);
         };
         if *is_open {
             if self.is_beaten(ahead, levels, partial) {
-                return Err(Stop::Beaten);
+                return Err(Flaw::Beaten);
             }
             *at += 1;
             return Ok(true);
         }
         if partial <= self.distance {
-            return Err(Stop::Cut);
+            return Err(Flaw::Cut);
         }
         *at += 1;
         Ok(false)

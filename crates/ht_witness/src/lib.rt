@@ -22,12 +22,12 @@ mod certifying;
 mod check_fault;
 mod checking;
 mod claim;
+mod flaw;
 pub mod laws;
 mod levels;
 mod marking;
 mod marks;
 mod off_grid;
-mod stop;
 mod visitor;
 mod walk;
 

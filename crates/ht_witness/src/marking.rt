@@ -31,7 +31,7 @@ impl Visitor for Marking {
     // The marks so far.
     type State = Marks;
 
-    type Stop = AllocError;
+    type Break = AllocError;
 
     ghost Outcome = { List Bool };
 

@@ -8,7 +8,7 @@ pub(crate) trait Visitor {
     type State;
 
     // Why a walk stops.
-    type Stop;
+    type Break;
 
     // What comes of a walk.
     ghost Outcome: { Type 0 };
@@ -17,7 +17,7 @@ pub(crate) trait Visitor {
     ghost outcome: { Self → Self.State → List Suffix → Outcome };
 
     // A walk of which this would come may stop in this state, for this reason.
-    ghost stops: { Outcome → Self.State → Self.Stop → Type 0 };
+    ghost stops: { Outcome → Self.State → Self.Break → Type 0 };
 
     // Whether what is below a suffix is to be walked. It has this number of coordinates ahead, and the levels from that
     // place on.
@@ -27,7 +27,7 @@ pub(crate) trait Visitor {
         levels: &[i8],
         partial: u128,
         state: &mut Self::State,
-    ) -> Result<bool, Self::Stop>
+    ) -> Result<bool, Self::Break>
         ensures { (s : Suffix) (rest : List Suffix) → IsAt ahead levels.now partial s
             → Visited (outcome self.now) stops state.old s rest state.new result };
 }

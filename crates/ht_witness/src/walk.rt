@@ -11,7 +11,7 @@ use ht_metric::Job;
 use ht_sphere::remainder::{cost, remainder_of};
 
 // Walks the tree of a job from the empty suffix on.
-pub(crate) fn walk<V: Visitor>(job: &Job, visitor: &V, state: &mut V::State) -> Result<(), V::Stop>
+pub(crate) fn walk<V: Visitor>(job: &Job, visitor: &V, state: &mut V::State) -> Result<(), V::Break>
     ensures walked { Walked (V.outcome visitor.now) V.stops state.old (roots job.now) state.new [] result }
     ensures job { IsJob job.now }
 {
@@ -30,7 +30,7 @@ fn quadrature<V: Visitor>(
     levels: &mut [i8],
     partial: u128,
     state: &mut V::State,
-) -> Result<(), V::Stop>
+) -> Result<(), V::Break>
     requires { CanWalk job.now k levels.old partial (2 ^ 128) }
     ensures levels { OnOk result (AreChosen (2 * k) levels.old levels.new) }
     ensures walked { (rest : List Suffix) → Walked (V.outcome visitor.now) V.stops
@@ -67,7 +67,7 @@ fn in_phase<V: Visitor>(
     levels: &mut [i8],
     partial: u128,
     state: &mut V::State,
-) -> Result<(), V::Stop>
+) -> Result<(), V::Break>
     requires ready { CanWalk job.now k levels.old partial (2 ^ 128 + 2 ^ 64) }
     requires aimed { IsAimed (i_at job.now.system job.now.grid (k - 1)) (drop (2 * k - 1) levels.old) d target }
     ensures levels { OnOk result (AreChosen (2 * k - 1) levels.old levels.new) }

@@ -8,10 +8,10 @@ use Rattle.ht_certify.proofs.checking.check_file.Given as goal
 abbrev pub invariant-loop-text : goal.invariant-loop-text
 invariant-loop-text g l = record {
   going : finished l.reader ≡ None;
-  few : l.tally.jobs + more l.reader ≤ 137438953472;
+  few : l.score.jobs + more l.reader ≤ 137438953472;
   waits : length (string_bytes l.text) < 16384;
   checks : Checks (g.S.Source.shown l.fn.source) (g.K.Sink.shown l.fn.sink) (shown_by l.reader (g.S.Source.shown l.source)) (g.K.Sink.shown l.sink)
-      l.tally (string_bytes l.text);
+      l.score (string_bytes l.text);
 }
 
 abbrev pub decreases-loop-text : goal.decreases-loop-text

@@ -9,7 +9,7 @@ use Rattle.ht_drive.proofs.lead.lead.Goals.{In-Ok}
 -- the window was filled
 supplied : (g : _) (c : In-Ok g) → IsLeading g.F.BlockFeed.shown g.F.BlockFeed.leads c.in-Ok.on (seen g.B.Jobs.jobs c.args.window.now)
     (seen g.B.Jobs.jobs c.supply.new.window)
-    c.args.caller.now c.supply.new.caller c.supply.new.tally c.args.feed.now c.supply.new.feed
+    c.args.caller.now c.supply.new.caller c.supply.new.counts c.args.feed.now c.supply.new.feed
 supplied g c = goes_further _ _ g.met.F.BlockFeed.goes_on c.loop.invariant c.in-Ok.ensures.goes_on
 
 pub returns-in-Err : goal.returns-in-Err
@@ -40,7 +40,7 @@ returns-then-is_home g c =
       led = record {
         through = search rules;
         jobs = so_far.stands.issued ∙ sym delivered.takes.count;
-        tallies = so_far.stands.tallies;
+        counted = so_far.stands.counted;
         by_number = numbers_first _ _ c.requires so_far;
         settled = search rules;
         whole = so_far.whole ∙ c.requires.whole;

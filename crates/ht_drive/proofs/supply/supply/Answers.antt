@@ -6,7 +6,7 @@ use Rattle.ht_feed.specs.Dues.{all_in, count_in}
 use Rattle.ht_feed.specs.Feeds.{EndsBlocks, GivesBlock}
 use Rattle.ht_feed.proofs.Turning.{along_end, along_more, in_turn_failed}
 use Rattle.ht_drive.specs.Blocks.{BlockWindow, due_in, seen}
-use Rattle.ht_drive.specs.Driving.{Holds, KeepsTurn, Tallies}
+use Rattle.ht_drive.specs.Driving.{Holds, KeepsTurn, AreCountsOf}
 use Rattle.ht_drive.proofs.Giving.{same_on, told_block}
 use Rattle.ht_drive.proofs.Going.{steps_held}
 use Rattle.ht_drive.proofs.Supplying.{goes_on_end, goes_on_more, holds_more, holds_still, is_running, on_ok}
@@ -73,7 +73,7 @@ loop-running-preserved-else-is_err g c =
     record {
       stands = record {
         holds = holds g here;
-        tallies = on_ok c.issue.result (Tallies c.issue.new.tally c.issue.new.caller) good c.issue.ensures.tallies;
+        counted = on_ok c.issue.result (AreCountsOf c.issue.new.counts c.issue.new.caller) good c.issue.ensures.counted;
         issued = omega (arith, c.issue.ensures.issued, so_far.stands.issued, given.count);
         under_way = goes_on_more c.args.size before.running (shown before.feed)
             (shown c.next.new.self) jobs c.loop-running-test.true so_far.stands.under_way given;
@@ -98,7 +98,7 @@ loop-running-preserved g c =
     record {
       stands = record {
         holds = holds_still (seen g.B.Jobs.jobs before.window) old new so_far.stands.holds ends.due;
-        tallies = so_far.stands.tallies;
+        counted = so_far.stands.counted;
         issued = so_far.stands.issued ∙ sym ends.count;
         under_way = goes_on_end before.running old new so_far.stands.under_way ends;
       };

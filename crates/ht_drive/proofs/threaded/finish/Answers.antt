@@ -8,11 +8,11 @@ pub returns-clause-ran : goal.returns-clause-ran
 returns-clause-ran g c =
     let closed = c.close-deques.result in
     let run = subst (λ (pool : BlockPool). HasRun task_of jobs_in pool c.args.members.items closed) c.into_caller.ensures.pool c.close-deques.ensures in
-    has_run_in_pool c.args.tally c.args.caller c.args.members.items closed c.requires.tallies run
+    has_run_in_pool c.args.counts c.args.caller c.args.members.items closed c.requires.counted run
     (subst (λ (pool : BlockPool). lacking pool.answers ≡ 0) c.into_caller.ensures.pool (c.into_caller.ensures.answered c.requires.whole))
     (record {
-      jobs = c.args.tally.issued;
-      own = c.args.tally.own;
+      jobs = c.args.counts.issued;
+      own = c.args.counts.own;
       ran = closed.ran;
       passes = Some (record { deques = closed.deques; results = closed.pass });
     })

@@ -8,7 +8,7 @@ use Rattle.ht_viterbi.proofs.plain.PlainBackwards.backwards.Goals as goal
 pub loop-at-init : goal.loop-at-init
 loop-at-init g c =
     let steps = length c.args.choices.now in
-    let places = map (costs_of g.P.Place.cost) c.args.received.now in
+    let places = map (costs_of g.P.CodedPlace.cost) c.args.received.now in
     record {
       within = omega arith;
       count = search rules;
@@ -34,7 +34,7 @@ loop-at-preserved g c =
     let steps = length c.args.choices.now in
     let at = c.loop-at.at in
     let was = c.loop-at.invariant in
-    let places = map (costs_of g.P.Place.cost) c.args.received.now in
+    let places = map (costs_of g.P.CodedPlace.cost) c.args.received.now in
     let cons = pair-back c.args.pattern places steps at c.step_at-branches.result c.loop-at-test.true was.within c.step_at-branches.ensures.value in
     let free = free-back c.args.pattern places steps at c.loop-at-test.true was.within in
     let pairs = steps_from c.args.pattern places at (steps - at) in

@@ -8,8 +8,8 @@ invariant-loop-at g l = record {
   within : l.at ≤ l.steps;
   count : length l.choices ≡ l.steps;
   start : l.start ≡ sent_count l.pattern l.at;
-  costs : (k : ℕ) → k < 64 → slice_index l.costs k ≡ least_from (steps_from l.pattern (map (costs_of g.P.Place.cost) l.received) l.at (l.steps - l.at)) k;
-  choices : AreChoices (steps_from l.pattern (map (costs_of g.P.Place.cost) l.received) l.at (l.steps - l.at)) (drop l.at l.choices);
+  costs : (k : ℕ) → k < 64 → slice_index l.costs k ≡ least_from (steps_from l.pattern (map (costs_of g.P.CodedPlace.cost) l.received) l.at (l.steps - l.at)) k;
+  choices : AreChoices (steps_from l.pattern (map (costs_of g.P.CodedPlace.cost) l.received) l.at (l.steps - l.at)) (drop l.at l.choices);
   bound : (k : ℕ) → slice_index l.costs k ≤ 2 ^ 33 * (l.steps - l.at);
 }
 

@@ -1,6 +1,6 @@
 use Rattle.std.proofs.Common.{◌≡◌, length, rules}
 use Rattle.ht_many.proofs.Texts.{all_put}
-use Rattle.ht_many.proofs.alone.Alone.texts.Goals as goal
+use Rattle.ht_many.proofs.alone.AloneReceiver.texts.Goals as goal
 
 pub returns-then-have_text : goal.returns-then-have_text
 returns-then-have_text g c =

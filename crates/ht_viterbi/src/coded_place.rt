@@ -6,7 +6,7 @@ ghost use Rattle.ht_viterbi.specs.Received.{known_of};
 use crate::received_bit::ReceivedBit;
 
 /// What is known of a coded bit at the place where it was received.
-pub trait Place: Copy {
+pub trait CodedPlace: Copy {
     /// What a bit costs at this place.
     ghost cost: { Self → Bool → ℕ };
 
@@ -16,7 +16,7 @@ pub trait Place: Copy {
 }
 
 /// A hard decision: the other bit costs 1. At an erased place, None, both bits cost nothing.
-impl Place for Option<bool> {
+impl CodedPlace for Option<bool> {
     ghost cost = { place_cost };
 
     fn cost(self, bit: bool) -> u32 {
@@ -28,7 +28,7 @@ impl Place for Option<bool> {
 }
 
 /// The same in one octet.
-impl Place for ReceivedBit {
+impl CodedPlace for ReceivedBit {
     ghost cost = { λ place. place_cost (known_of place) };
 
     fn cost(self, bit: bool) -> u32 {
@@ -42,7 +42,7 @@ impl Place for ReceivedBit {
 
 /// A weight: positive where a 1 is likelier, negative where a 0 is. Its size is what the other bit costs, and at an erased
 /// place, 0, both bits cost nothing.
-impl Place for i32 {
+impl CodedPlace for i32 {
     ghost cost = { weight_cost };
 
     fn cost(self, bit: bool) -> u32 {

@@ -11,7 +11,7 @@ const FRONT: usize = 21;
 
 /// `job FRAME SYMBOL `, which is made once for the lines of a symbol's jobs.
 #[derive(Drop)]
-pub(crate) struct Front {
+pub(crate) struct LineStart {
     frame: u16,
     symbol: u32,
     // The front, behind octets that are no part of it.
@@ -22,9 +22,9 @@ pub(crate) struct Front {
     ghost is: { drop start octets ≡ front_of frame symbol },
 }
 
-impl Front {
+impl LineStart {
     /// The front of the lines of a frame's symbol.
-    pub(crate) fn of(frame: u16, symbol: u32) -> Front
+    pub(crate) fn of(frame: u16, symbol: u32) -> LineStart
         ensures frame { result.frame ≡ frame }
         ensures symbol { result.symbol ≡ symbol }
     {
@@ -36,7 +36,7 @@ impl Front {
         let at = write_octet(&mut octets, at, b'b');
         let at = write_octet(&mut octets, at, b'o');
         let start = write_octet(&mut octets, at, b'j');
-        Front {
+        LineStart {
             frame,
             symbol,
             octets,
@@ -51,7 +51,7 @@ impl Front {
         ensures symbol { self.new.symbol ≡ place.symbol }
     {
         if self.frame != place.frame || self.symbol != place.symbol {
-            *self = Front::of(place.frame, place.symbol);
+            *self = LineStart::of(place.frame, place.symbol);
         }
     }
 

@@ -3,20 +3,20 @@ ghost use Rattle.std.specs.Prelude.{◌≡◌, ◌≤◌, ◌<◌, ◌+◌, if�
 
 /// How many certificates were checked, and how many of them hold.
 #[derive(Clone, Copy, Debug, PartialEq, Eq)]
-pub(crate) struct Tally {
+pub(crate) struct Score {
     /// The number that were checked.
     pub jobs: u64,
     /// The number of those that hold.
     pub right: u64,
 }
 
-impl Tally {
+impl Score {
     /// No certificates.
-    pub(crate) fn new() -> Tally
+    pub(crate) fn new() -> Score
         ensures jobs { result.jobs ≡ 0 }
         ensures right { result.right ≡ 0 }
     {
-        Tally { jobs: 0, right: 0 }
+        Score { jobs: 0, right: 0 }
     }
 
     /// Counts one certificate more.

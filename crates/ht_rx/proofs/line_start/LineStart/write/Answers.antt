@@ -1,6 +1,6 @@
 use Rattle.std.proofs.Common.{◌∙◌, ap, ℕ, List, drop, rules}
 use Rattle.ht_rx.proofs.Writing.{part_put}
-use Rattle.ht_rx.proofs.front.Front.write.Goals as goal
+use Rattle.ht_rx.proofs.line_start.LineStart.write.Goals as goal
 
 pub returns-clause-written : goal.returns-clause-written
 returns-clause-written c =

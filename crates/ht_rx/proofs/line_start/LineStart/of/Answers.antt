@@ -1,6 +1,6 @@
 use Rattle.std.proofs.Common.{arith, rules}
 use Rattle.std.proofs.lemmas.Fmt.{length-decimal-le}
-use Rattle.ht_rx.proofs.front.Front.of.Goals as goal
+use Rattle.ht_rx.proofs.line_start.LineStart.of.Goals as goal
 
 pub write_digits-at-requires : goal.write_digits-at-requires
 write_digits-at-requires c = (omega (arith, length-decimal-le 10 c.from.result (omega arith) (omega arith) (omega arith)), omega arith)
