@@ -53,7 +53,8 @@ gap-now u v t = sym (ap (λ (b : Bool). xor b (delayed_bit v t 0)) (delayed-now 
 
 none-before : (u v : List Bool) (d : ℕ) → false ≡ delayed_gap u v 0 (suc d)
 unfolding xor
-none-before u v d = sym (ap (λ (b : Bool). xor b (delayed_bit v 0 (suc d))) (delayed-before u 0 (suc d) (omega arith)) ∙ ap (xor false) (delayed-before v 0 (suc d) (omega arith)))
+none-before u v d = sym (ap (λ (b : Bool). xor b (delayed_bit v 0 (suc d))) (delayed-before u 0 (suc d) (omega arith)) ∙ ap (xor false)
+    (delayed-before v 0 (suc d) (omega arith)))
 
 -- the six bits that the state of the difference remembers
 pub remembers : (u v : List Bool) (t : ℕ) → history_of (gap u v t)

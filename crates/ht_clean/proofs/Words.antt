@@ -1,5 +1,6 @@
 -- The steps of a word are those of the whole input, and its places are those of the whole word list.
-use Rattle.std.proofs.Common.{◌≡◌, ◌∙◌, inl, inr, ℕ, zero, suc, ◌+◌, ◌-◌, ◌*◌, ◌/◌, ◌%◌, ◌<◌, ◌≤◌, List, [], ◌∷◌, ◌++◌, Bool, true, false, not, drop, length, get_or, min}
+use Rattle.std.proofs.Common.{◌≡◌, ◌∙◌, inl, inr, ℕ, zero, suc, ◌+◌, ◌-◌, ◌*◌, ◌/◌, ◌%◌, ◌<◌}
+use Rattle.std.proofs.Common.{◌≤◌, List, [], ◌∷◌, ◌++◌, Bool, true, false, not, drop, length, get_or, min}
 use Rattle.std.proofs.Common.{nat_le, Option, None, Some, refl, ap, sym, subst, arith, ◌==◌}
 use mathlib.Core.Bool.{xor}
 use Rattle.std.specs.Int.{div_ceil, from_bool}
@@ -25,7 +26,8 @@ use Rattle.ht_clean.specs.Sparse.{IsPoured, input_bit, unpacked, wrong_at, wrong
 use Rattle.ht_clean.proofs.Detours.{AreKnown, sparse-found, step-within}
 use Rattle.ht_clean.proofs.Linear.{delayed-before, delayed-within}
 
-pub unpacked-at : (pattern : Pattern) (input : List ℕ) (steps step : ℕ) → step < steps → get_or (unpacked pattern input steps) step false ≡ input_bit pattern input step
+pub unpacked-at : (pattern : Pattern) (input : List ℕ) (steps step : ℕ) → step < steps
+    → get_or (unpacked pattern input steps) step false ≡ input_bit pattern input step
 unfolding unpacked
 unpacked-at pattern input steps step lt = get_or-map-range_with_len (input_bit pattern input) 0 steps step step false lt (omega arith)
 
@@ -296,7 +298,8 @@ all-poured pattern words input steps count width level wrong many width-is count
     sparse-found steps pattern (packed words (sent_count pattern steps)) (packed_bit words) (unpacked pattern input steps) wrong many
     (packed-known words (sent_count pattern steps)) ends whole.sparse whole.wrong
 
-pub none-poured : (pattern : Pattern) (received : List (Option Bool)) (u : List Bool) (steps : ℕ) → IsPoured pattern received u (min (0 * word_steps pattern) steps) 0 0
+pub none-poured : (pattern : Pattern) (received : List (Option Bool)) (u : List Bool) (steps : ℕ)
+    → IsPoured pattern received u (min (0 * word_steps pattern) steps) 0 0
 none-poured pattern received u steps =
     let none : 0 ≡ min (0 * word_steps pattern) steps = omega arith in
     subst (λ (t : ℕ). IsPoured pattern received u t 0 0) none (record { sparse = λ s lt. absurd (omega (arith, lt)); level = refl; wrong = refl })
@@ -317,7 +320,11 @@ unpacked-more pattern words step items new bit is more bit-is =
 -- the words of the input have all steps
 pub words-cover : (pattern : Pattern) (steps count width long : ℕ) → width ≡ word_steps pattern → count ≡ div_ceil steps width → count ≤ long
     → steps ≤ word_steps pattern * long
-words-cover Half steps count width long width-is count-is le = let e : count ≡ div_ceil steps 30 = count-is ∙ ap (div_ceil steps) width-is in omega (arith, e, le)
-words-cover TwoThirds steps count width long width-is count-is le = let e : count ≡ div_ceil steps 40 = count-is ∙ ap (div_ceil steps) width-is in omega (arith, e, le)
-words-cover ThreeQuarters steps count width long width-is count-is le = let e : count ≡ div_ceil steps 45 = count-is ∙ ap (div_ceil steps) width-is in omega (arith, e, le)
-words-cover FiveSixths steps count width long width-is count-is le = let e : count ≡ div_ceil steps 50 = count-is ∙ ap (div_ceil steps) width-is in omega (arith, e, le)
+words-cover Half steps count width long width-is count-is le = let e : count ≡ div_ceil steps 30 = count-is ∙ ap (div_ceil steps) width-is in omega
+    (arith, e, le)
+words-cover TwoThirds steps count width long width-is count-is le = let e : count ≡ div_ceil steps 40 = count-is ∙ ap
+    (div_ceil steps) width-is in omega (arith, e, le)
+words-cover ThreeQuarters steps count width long width-is count-is le = let e : count ≡ div_ceil steps 45 = count-is ∙ ap
+    (div_ceil steps) width-is in omega (arith, e, le)
+words-cover FiveSixths steps count width long width-is count-is le = let e : count ≡ div_ceil steps 50 = count-is ∙ ap
+    (div_ceil steps) width-is in omega (arith, e, le)

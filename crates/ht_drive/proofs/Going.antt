@@ -39,7 +39,8 @@ module _ {F Fault : Type 0} (shown : F → FeedView Fault) (Leads : F → F → 
     }
 
     -- the feed took answers, and then one came or a block was run
-    pub goes_taken : {r : Bool} {w w' w'' last : BlockWindow} {h h' h'' : BlockCaller} {t : CallerCounts} {f f' f'' : F} → IsLeading shown Leads r w w' h h' t f f'
+    pub goes_taken : {r : Bool} {w w' w'' last : BlockWindow} {h h' h'' : BlockCaller} {t : CallerCounts} {f f' f'' : F}
+        → IsLeading shown Leads r w w' h h' t f f'
         → StepsOn shown Leads w' w'' f' f'' → Holds w'' (shown f'') → KeepsTurn (shown f') (shown f'') → OnlyTakes (shown f') (shown f'')
         → last ≡ w'' → h''.given ≡ h'.given → IsSameCaller h' h'' → h''.whole ≡ h'.whole → IsLeading shown Leads r w last h h'' t f f''
     goes_taken {r = r} {h = h} {h' = h'} {h'' = h''} {t = t} {f = f} {f' = f'} {f'' = f''} first steps holds turn takes window given same whole = record {

@@ -170,7 +170,8 @@ module _ {H : Type 0} (plan : Plan H ℕ) (head : H) where
           ∙ ap (λ (q : ℕ). take c (drop n jobs) ++ get_or jobs q no_job ∷ []) (sym is))
 
 -- a run of jobs behind the first ones of a block
-pub run_added : {H : Type 0} (plan : Plan H ℕ) (jobs : List JobView) (n r : ℕ) (head own : H) (c d e p c' d' : ℕ) (ps ps' rs ls ls' ks : List ℕ) → c' ≡ c + r → d' ≡ d + e
+pub run_added : {H : Type 0} (plan : Plan H ℕ) (jobs : List JobView) (n r : ℕ) (head own : H) (c d e p c' d' : ℕ) (ps ps' rs ls ls' ks : List ℕ)
+    → c' ≡ c + r → d' ≡ d + e
     → ps' ≡ ps ++ rs → ls' ≡ ls ++ ks → HasFirst plan jobs n head own c d p ps ls → IsTally plan own (jobs_behind jobs n r) r e 0 rs ks
     → HasFirst plan jobs (n + r) head own c' d' p ps' ls'
 run_added {H} plan jobs n r head own c d e p c' d' ps ps' rs ls ls' ks counts sums places labels has run =

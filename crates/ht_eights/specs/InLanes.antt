@@ -16,7 +16,8 @@ abbrev pub jobs_behind : List JobView → ℕ → ℕ → List JobView
 jobs_behind jobs first n = take n (drop first jobs)
 
 -- these are the numbers, places and labels of a tally of the first jobs of a block, of a frame with this head
-pub record HasFirst {H : Type 0} (plan : Plan H ℕ) (jobs : List JobView) (first : ℕ) (head own : H) (number data_sum pilot_sum : ℕ) (places labels : List ℕ) : Type 0 where
+pub record HasFirst {H : Type 0} (plan : Plan H ℕ) (jobs : List JobView) (first : ℕ) (head own : H) (number data_sum pilot_sum : ℕ)
+    (places labels : List ℕ) : Type 0 where
   pub counted : number ≡ first
   pub same : own ≡ head
   pub long : length places ≡ length labels

@@ -73,7 +73,8 @@ module _ {R H : Type 0} (counts : R → Counts) (in_flight : InFlightView R H) (
         going = λ stop. counted.going;
         given = λ stop. counted.given ∙ (ap (λ n. n + length jobs) (sound.given none) ∙ sym number);
         bound = omega (arith, bound, fewer, number);
-        full = subst NoneEmpty (sym (ap jobs_in is ∙ jobs_in-append in_flight.due (due_of head jobs))) (full-append (jobs_in in_flight.due) jobs sound.full counted.some);
+        full = subst NoneEmpty (sym (ap jobs_in is ∙ jobs_in-append in_flight.due (due_of head jobs)))
+            (full-append (jobs_in in_flight.due) jobs sound.full counted.some);
       }
 
   pub adds_block : AddsBlock counts most in_flight added jobs
@@ -115,7 +116,8 @@ module _ {R H : Type 0} (in_flight : InFlightView R H) (reader : R) (head : H) (
       }
 
   pub reads_none : (means : R → List ℕ → Meaning (Item H)) (at : R → ℕ) (source after : Device ℕ)
-      → Finds (standing means at in_flight.reader None source) (standing means at reader (Some stop) after) (begun in_flight.head in_flight.frames) (begun head frames) []
+      → Finds (standing means at in_flight.reader None source) (standing means at reader (Some stop) after) (begun in_flight.head in_flight.frames)
+        (begun head frames) []
       → ReadsMore means at in_flight stopped source after
   reads_none means at source after finds = record {
     came = [];
@@ -126,7 +128,8 @@ module _ {R H : Type 0} (in_flight : InFlightView R H) (reader : R) (head : H) (
   }
 
 -- the first block was taken
-pub sound_taken : {R H : Type 0} (counts : R → Counts) (in_flight : InFlightView R H) (due : List (Due H)) → IsSoundInFlight counts in_flight → due ≡ drop 1 in_flight.due
+pub sound_taken : {R H : Type 0} (counts : R → Counts) (in_flight : InFlightView R H) (due : List (Due H)) → IsSoundInFlight counts in_flight
+    → due ≡ drop 1 in_flight.due
     → IsSoundInFlight counts (record in_flight { due = due })
 sound_taken counts in_flight due sound is = record {
   going = sound.going;

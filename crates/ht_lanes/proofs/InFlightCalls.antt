@@ -46,7 +46,8 @@ module _ {R H : Type 0} (means : R → List ℕ → Meaning (Item H)) (at : R �
       (tells-none (seen_by means at old source consumer)))
 
   -- what a consumer puts in all is told by its pieces; one that did not fail before was called
-  module _ {A : Type 0} (pieces : A → List (Headed H) → List ℕ) (x y : A) (in_flight : InFlightView R H) (source before after : Device ℕ) (failed : Option BookFault)
+  module _ {A : Type 0} (pieces : A → List (Headed H) → List ℕ) (x y : A) (in_flight : InFlightView R H) (source before after : Device ℕ)
+      (failed : Option BookFault)
       (none : failed ≡ None) where
     abbrev seen : InFlightView R H → Device ℕ → A → Seen H ℕ
     seen d device consumer = seen_by means at d source (lane_telling pieces consumer device)
@@ -59,7 +60,8 @@ module _ {R H : Type 0} (means : R → List ℕ → Meaning (Item H)) (at : R �
         (tells_taken means at in_flight new source (lane_telling pieces x before) (lane_telling pieces y after) first.due first.books (λ w. tt))
 
     -- it could not put their pieces, or not make them
-    pub took_none : {B : Type 0} {fault : BookFault} (new : InFlightView R H) → BooksFirstDue {A = B} (Err fault) in_flight new before after (pieces x) (pieces y)
+    pub took_none : {B : Type 0} {fault : BookFault} (new : InFlightView R H)
+        → BooksFirstDue {A = B} (Err fault) in_flight new before after (pieces x) (pieces y)
         → TellsBy failed (Some fault) (seen in_flight before x) (seen new after y)
     took_none {fault = fault} new first =
         ill failed (seen in_flight before x) (seen new after y) fault none
@@ -70,7 +72,8 @@ module _ {R H : Type 0} (means : R → List ℕ → Meaning (Item H)) (at : R �
         → TellsBy failed failed (seen in_flight before x) (seen in_flight after y)
     finished books =
         well failed failed (seen in_flight before x) (seen in_flight after y) none refl
-        (tells_put means at in_flight in_flight.due source (lane_telling pieces x before) (lane_telling pieces y after) [] (append-nil (all_due in_flight.due)) books
+        (tells_put means at in_flight in_flight.due source (lane_telling pieces x before) (lane_telling pieces y after) []
+            (append-nil (all_due in_flight.due)) books
         (λ w. tt))
 
     -- not all of it could be put, or made

@@ -10,7 +10,8 @@ ghost use Rattle.ht_rounding.specs.Labels.{IsLabelled, labels_in};
 ghost use Rattle.ht_rounding.specs.Loading.{AreBelow, no_job};
 ghost use Rattle.ht_rate.specs.declared.kinds.Modulation.{Modulation as ModulationView};
 ghost use Rattle.ht_library.specs.Detected.{job_at};
-ghost use Rattle.ht_library.specs.Symbols.{AreFoundFrom, AreHits, AreHitsBelow, AreLabelsBelow, AreLabelsOf, AreAnswered, AreSummed, AreSums, AreSymbols, HasRoom, IsDistance};
+ghost use Rattle.ht_library.specs.Symbols.{AreFoundFrom, AreHits, AreHitsBelow, AreLabelsBelow, AreLabelsOf};
+ghost use Rattle.ht_library.specs.Symbols.{AreAnswered, AreSummed, AreSums, AreSymbols, HasRoom, IsDistance};
 ghost use Rattle.ht_library.specs.Symbols.{IsEmptyOr, found_at, no_distance};
 
 use crate::crossing::{MizgaureChannel, MizgaureDistance, MizgaureHit, MizgaureReceived};

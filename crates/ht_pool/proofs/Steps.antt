@@ -23,7 +23,8 @@ module _ {T : Type 0} where
   pub learns : (port : ℕ) (v : PassLog T) → v.parts ≡ 1024 → Learns IsCounted port v (AddsUp v)
   learns port v all items logs b at = counted-whole logs port v at items b all
 
-  pub queue_pushes : (n port : ℕ) (v : PassLog T) (x : T) → 0 < v.parts → fifo.Pushes IsCounted n port v x (λ w. w ≡ pass_log v.parts (v.pushed ++ x ∷ []) v.taken)
+  pub queue_pushes : (n port : ℕ) (v : PassLog T) (x : T) → 0 < v.parts → fifo.Pushes IsCounted n port v x
+      (λ w. w ≡ pass_log v.parts (v.pushed ++ x ∷ []) v.taken)
   queue_pushes n port v x part items logs _ b at = (pass_log v.parts (v.pushed ++ x ∷ []) v.taken, counted-push logs port v at items (x ∷ []) b part, refl)
 
   pub queue_takes : (port : ℕ) (v : PassLog T) → 0 < v.parts → fifo.Pops IsCounted port v (λ x w. w ≡ pass_log v.parts v.pushed (v.taken ++ x ∷ []))

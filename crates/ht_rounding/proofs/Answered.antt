@@ -64,7 +64,8 @@ one-more jobs founds k job found eight lt before e is = (
 )
 
 -- a job that a lane can answer is in its lane
-pub plain-in-lane : (i q : Levels) (channel : Channel) (samples : SampleLanes) (k n : ℕ) (job : JobView) → IsPlain i q n job → IsLoaded channel samples k job.system
+pub plain-in-lane : (i q : Levels) (channel : Channel) (samples : SampleLanes) (k n : ℕ) (job : JobView) → IsPlain i q n job
+    → IsLoaded channel samples k job.system
     → IsInLane i q channel samples k n job
 plain-in-lane i q channel samples k n job plain loaded = in-lane i q channel samples k n job _ plain.valid plain.grid refl plain.small loaded
 

@@ -65,25 +65,29 @@ joined_are g c =
 pub push_reserved-requires : goal.push_reserved-requires
 push_reserved-requires g c =
     let long = crew-long c.args.caller.deques (deques_at c.caller_end.inside.takers.items) c.caller_end.inside.own.deque c.args.members.items
-    (ap (λ (v : CallerView g.row.W-Task.Denot g.row.W-Answer.Denot). v.deques) (c.caller_end.view_is ∙ c.caller.view_is)) c.caller_end.invariant.1 c.requires.workplaces in
+    (ap (λ (v : CallerView g.row.W-Task.Denot g.row.W-Answer.Denot). v.deques)
+        (c.caller_end.view_is ∙ c.caller.view_is)) c.caller_end.invariant.1 c.requires.workplaces in
     omega (arith, long, ap length c.requires.space.ran.0, c.requires.space.ran.1)
 
 pub push_reserved-requires-2 : goal.push_reserved-requires-2
 push_reserved-requires-2 g c =
     let long = crew-long c.args.caller.deques (deques_at c.caller_end.inside.takers.items) c.caller_end.inside.own.deque c.args.members.items
-    (ap (λ (v : CallerView g.row.W-Task.Denot g.row.W-Answer.Denot). v.deques) (c.caller_end.view_is ∙ c.caller.view_is)) c.caller_end.invariant.1 c.requires.workplaces in
+    (ap (λ (v : CallerView g.row.W-Task.Denot g.row.W-Answer.Denot). v.deques)
+        (c.caller_end.view_is ∙ c.caller.view_is)) c.caller_end.invariant.1 c.requires.workplaces in
     omega (arith, long, ap length c.requires.space.owners.0, c.requires.space.owners.1)
 
 pub push_reserved-requires-3 : goal.push_reserved-requires-3
 push_reserved-requires-3 g c =
     let long = crew-long c.args.caller.deques (deques_at c.caller_end.inside.takers.items) c.caller_end.inside.own.deque c.args.members.items
-    (ap (λ (v : CallerView g.row.W-Task.Denot g.row.W-Answer.Denot). v.deques) (c.caller_end.view_is ∙ c.caller.view_is)) c.caller_end.invariant.1 c.requires.workplaces in
+    (ap (λ (v : CallerView g.row.W-Task.Denot g.row.W-Answer.Denot). v.deques)
+        (c.caller_end.view_is ∙ c.caller.view_is)) c.caller_end.invariant.1 c.requires.workplaces in
     omega (arith, long, ap length c.requires.space.rows.0, c.requires.space.rows.1)
 
 pub take_apart-requires-clause-numbers : goal.take_apart-requires-clause-numbers
 take_apart-requires-clause-numbers g c =
     let long = crew-long c.args.caller.deques (deques_at c.caller_end.inside.takers.items) c.caller_end.inside.own.deque c.args.members.items
-    (ap (λ (v : CallerView g.row.W-Task.Denot g.row.W-Answer.Denot). v.deques) (c.caller_end.view_is ∙ c.caller.view_is)) c.caller_end.invariant.1 c.requires.workplaces in
+    (ap (λ (v : CallerView g.row.W-Task.Denot g.row.W-Answer.Denot). v.deques)
+        (c.caller_end.view_is ∙ c.caller.view_is)) c.caller_end.invariant.1 c.requires.workplaces in
     omega (
       arith,
       long,
@@ -97,7 +101,8 @@ take_apart-requires-clause-numbers g c =
 pub take_apart-requires-clause-places : goal.take_apart-requires-clause-places
 take_apart-requires-clause-places g c =
     let long = crew-long c.args.caller.deques (deques_at c.caller_end.inside.takers.items) c.caller_end.inside.own.deque c.args.members.items
-    (ap (λ (v : CallerView g.row.W-Task.Denot g.row.W-Answer.Denot). v.deques) (c.caller_end.view_is ∙ c.caller.view_is)) c.caller_end.invariant.1 c.requires.workplaces in
+    (ap (λ (v : CallerView g.row.W-Task.Denot g.row.W-Answer.Denot). v.deques)
+        (c.caller_end.view_is ∙ c.caller.view_is)) c.caller_end.invariant.1 c.requires.workplaces in
     omega (
       arith,
       long,
@@ -111,7 +116,8 @@ take_apart-requires-clause-places g c =
 pub take_apart-requires-clause-room : goal.take_apart-requires-clause-room
 take_apart-requires-clause-room g c =
     let long = crew-long c.args.caller.deques (deques_at c.caller_end.inside.takers.items) c.caller_end.inside.own.deque c.args.members.items
-    (ap (λ (v : CallerView g.row.W-Task.Denot g.row.W-Answer.Denot). v.deques) (c.caller_end.view_is ∙ c.caller.view_is)) c.caller_end.invariant.1 c.requires.workplaces in
+    (ap (λ (v : CallerView g.row.W-Task.Denot g.row.W-Answer.Denot). v.deques)
+        (c.caller_end.view_is ∙ c.caller.view_is)) c.caller_end.invariant.1 c.requires.workplaces in
     omega (
       arith,
       long,
