@@ -24,7 +24,7 @@ use Rattle.ht_capture.specs.declared.places.Turn.{Turn}
 use Rattle.ht_capture.specs.declared.places.SymbolTurn.{SymbolTurn}
 use Rattle.ht_capture.specs.declared.stage.Stage.{Stage}
 use Rattle.ht_capture.specs.declared.stage.Stage.TheVariants.{Giving, NextFrame, NextSymbol}
-use Rattle.ht_capture.specs.Blocks.{CountsPart, GivesBlock, IsPartOf, KeepsLent, Lends, LendsFrame, StopsBlocks, items_in}
+use Rattle.ht_capture.specs.Blocks.{CountsPart, GivesBlockItem, IsPartOf, KeepsLent, Lends, LendsFrame, StopsBlocks, items_in}
 use Rattle.ht_capture.specs.Fields.{captures, next_symbol, next_turn, symbol_due}
 use Rattle.ht_capture.specs.Parts.{SymbolPart, part_of, symbol_part}
 use Rattle.ht_capture.specs.Reading.{AreSeen}
@@ -138,7 +138,7 @@ counted_part due k count most old new symbol part stage some few is made size be
           ∙ sym (ap (λ (c : Counts). counted c.frames (c.jobs + length part.present)) before));
     }
 
-gives_block_item : (old mid new : ReaderView Item) (item : BlockItem) → Gives old mid [] → GivesBlock mid new item → GivesBlock old new item
+gives_block_item : (old mid new : ReaderView Item) (item : BlockItem) → Gives old mid [] → GivesBlockItem mid new item → GivesBlockItem old new item
 gives_block_item old mid new (Frame head) a b = gives_more old mid new [] (FrameItem head ∷ []) a b
 gives_block_item old mid new (Block part) a b = gives_more old mid new [] (items_in part) a b
 gives_block_item old mid new Done a b = gives_completes old mid new.source a b
@@ -152,6 +152,6 @@ stops_behind old mid new NoMemory a later b = gives_more old mid new [] [] a b
 -- octets that give no item, and then an answer
 pub gives_block_answer : (old mid new : ReaderView Item) (answer : Result BlockItem InFault)
     → Gives old mid [] → IsLater old.source mid.source
-    → MatchResult answer (GivesBlock mid new) (StopsBlocks mid new) → MatchResult answer (GivesBlock old new) (StopsBlocks old new)
+    → MatchResult answer (GivesBlockItem mid new) (StopsBlocks mid new) → MatchResult answer (GivesBlockItem old new) (StopsBlocks old new)
 gives_block_answer old mid new (Ok item) a later b = gives_block_item old mid new item a b
 gives_block_answer old mid new (Err fault) a later b = stops_behind old mid new fault a later b

@@ -28,10 +28,10 @@ abbrev pub items_in : SymbolPart → List Item
 items_in part = map (λ job. JobItem job) (jobs_of part)
 
 -- the octets taken give the head, or each job of the block; Done says that the capture is whole
-abbrev pub GivesBlock : ReaderView Item → ReaderView Item → BlockItem → Type 0
-GivesBlock old new (Frame head) = Gives old new (FrameItem head ∷ [])
-GivesBlock old new (Block part) = Gives old new (items_in part)
-GivesBlock old new Done = Completes old new.source
+abbrev pub GivesBlockItem : ReaderView Item → ReaderView Item → BlockItem → Type 0
+GivesBlockItem old new (Frame head) = Gives old new (FrameItem head ∷ [])
+GivesBlockItem old new (Block part) = Gives old new (items_in part)
+GivesBlockItem old new Done = Completes old new.source
 
 -- the reading stopped; where memory lacked, no job is lost
 abbrev pub StopsBlocks : ReaderView Item → ReaderView Item → InFault → Type 0
@@ -98,7 +98,7 @@ pub record AnswersBlock {S : Type 0} (shown : S → Device ℕ) (most : ℕ) (ol
     (result : Result BlockItem InFault) : Type 0 where
   -- what the octets that this call took mean
   pub told : finished old ≡ None → MatchResult result
-      (GivesBlock (shown_by old (shown source)) (shown_by new (shown source')))
+      (GivesBlockItem (shown_by old (shown source)) (shown_by new (shown source')))
       (StopsBlocks (shown_by old (shown source)) (shown_by new (shown source')))
   -- heads and jobs are numbered from 0
   pub counted : IfOk result (CountsBlock most (counts old) (counts new))

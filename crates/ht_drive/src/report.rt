@@ -1,7 +1,7 @@
 //! What a drive says of its run.
 
+use ht_pool::common::AnswerPass;
 use ht_pool::ends::Ends;
-use ht_pool::shared::AnswerPass;
 
 /// What went through the deques and the queue of a drive. Contracts see what was pushed and taken; the program stores
 /// no such list.

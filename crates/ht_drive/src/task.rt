@@ -3,7 +3,7 @@ ghost use Rattle.std.specs.Prelude.{◌≡◌, true, IfOk, OnErr, OnOk};
 ghost use Rattle.ht_drive.specs.Blocks.{IsBlock, jobs_in, task_of};
 
 use ht_feed::{Answer, Jobs, Work};
-use ht_pool::work::Work as PoolWork;
+use ht_pool::work::PoolWork;
 use std::alloc::AllocError;
 use std::marker::{Model, PhantomData};
 use std::sync::Wait;

@@ -9,7 +9,7 @@ use Rattle.ht_pool.specs.declared.member.Member.{Member}
 module _ {T A : Type 0} (asked : A → T) (weight : T → ℕ) (queue : TableId) where
   pub have_served-push : (before front after all : List (Member T A)) (m m' : Member T A) → before ≡ front ++ m ∷ [] → all ≡ after ++ m' ∷ []
       → HaveServed asked weight queue front after → HasServed asked weight queue m' → workplace_of m' ≡ workplace_of m
-        → HaveServed asked weight queue before all
+      → HaveServed asked weight queue before all
   have_served-push before front after all m m' b a those this same =
       let new : map workplace_of all ≡ map workplace_of after ++ workplace_of m' ∷ [] = ap (map workplace_of) a ∙ map-append workplace_of after (m' ∷ []) in
       let old : map workplace_of before ≡ map workplace_of front ++ workplace_of m ∷ [] = ap (map workplace_of) b ∙ map-append workplace_of front (m ∷ []) in

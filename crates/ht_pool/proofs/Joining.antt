@@ -39,7 +39,7 @@ module _ {T : Type 0} where
       → All (λ (ss : List (TakerView T)). deques_at ss ≡ own_deques owners) (rows_of rest) × (deques_at takers.items ≡ own_deques owners)
   rows_at_last owners rows rest takers is at =
       All-pop (λ (ss : List (TakerView T)). deques_at ss ≡ own_deques owners) (rows_of rows) (rows_of rest) (Some takers.items)
-          (rows_last rows rest takers is) at
+      (rows_last rows rest takers is) at
 
 module _ {T : Type 0} where
   -- what all owners took, and what they pushed

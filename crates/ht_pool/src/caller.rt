@@ -3,21 +3,21 @@ ghost use Rattle.std.specs.Prelude.{◌≡◌, ◌≤◌, [], length, IfErr, IfS
 ghost use Rattle.ht_pool.specs.Callers.{gave, received, TakesBack};
 
 use crate::caller_end::CallerEnd;
-use crate::shared::Shared;
-use crate::work::{FULL, Work};
+use crate::common::Common;
+use crate::work::{FULL, PoolWork};
 use std::marker::Model;
 
 /// Where a caller gives tasks to the pool and gets answers. Contracts see the tasks that it gave, in order, those that it
 /// took back and ran itself, and the answers that it received, in order.
 #[derive(Drop)]
-pub struct Caller<'a, W: Work> {
+pub struct Caller<'a, W: PoolWork> {
     pub(crate) caller_end: CallerEnd<W::Task, W::Answer>,
-    pub(crate) shared: &'a Shared<W::Answer>,
+    pub(crate) shared: &'a Common<W::Answer>,
     pub(crate) work: &'a W,
     pub(crate) ran: u64,
 }
 
-impl<'a, W: Work> Model for Caller<'a, W> {
+impl<'a, W: PoolWork> Model for Caller<'a, W> {
     ghost use Rattle.std.specs.Prelude.{◌≡◌};
     ghost use Rattle.std.specs.List.{sum_by};
     ghost use Rattle.ht_pool.specs.Callers.{CallerView};
@@ -29,11 +29,11 @@ impl<'a, W: Work> Model for Caller<'a, W> {
     ghost invariant = { λ d. (d.shared.now ≡ d.caller_end.queue) × (d.ran ≡ sum_by W.weight d.caller_end.taken) };
 }
 
-impl<'a, W: Work> Caller<'a, W> {
+impl<'a, W: PoolWork> Caller<'a, W> {
     /// The caller at an end of which nothing was taken yet, in the pool of what the threads share.
     pub fn new(
         caller_end: CallerEnd<W::Task, W::Answer>,
-        shared: &'a Shared<W::Answer>,
+        shared: &'a Common<W::Answer>,
         work: &'a W,
     ) -> Caller<'a, W>
         requires queue { shared.now ≡ caller_end.queue }

@@ -5,9 +5,9 @@ ghost use Rattle.ht_pool.specs.PassLogs.{pass_log};
 ghost use Rattle.ht_pool.specs.Takers.{fresh_taker, fresh_own, deques_at};
 ghost use Rattle.ht_pool.specs.Callers.{unused, gave, received, TakesBack};
 
+use crate::common::{AnswerPass, Common};
 use crate::lookout::steal_one;
 use crate::own::OwnDeque;
-use crate::shared::{AnswerPass, Shared};
 use crate::taker::Taker;
 use std::marker::Model;
 
@@ -87,7 +87,7 @@ impl<T: Drop, A: Drop> CallerEnd<T, A> {
     }
 
     /// Receives an answer, if there is one.
-    pub(crate) fn receive(&mut self, shared: &Shared<A>) -> Option<A>
+    pub(crate) fn receive(&mut self, shared: &Common<A>) -> Option<A>
         requires queue { shared.now ≡ self.old.queue }
         ensures received { IfSome result (λ answer. self.new ≡ received self.old answer) }
         ensures none { IfNone result (self.new ≡ self.old) }

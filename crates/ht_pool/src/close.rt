@@ -14,18 +14,18 @@ ghost use Rattle.ht_pool.specs.declared.ends.Ends.{Ends as EndsValue};
 use crate::caller::Caller;
 use crate::caller_end::CallerEnd;
 use crate::closed::Closed;
+use crate::common::{AnswerPass, Common};
 use crate::ends::Ends;
 use crate::first::take_first;
 use crate::member::Member;
 use crate::own::OwnDeque;
-use crate::shared::{AnswerPass, Shared};
 use crate::space::Space;
 use crate::taker::Taker;
-use crate::work::Work;
+use crate::work::PoolWork;
 
 // Takes the workers apart: their numbers, their deques and their takers, and joins their passes on the queue.
-fn take_apart<W: Work>(
-    shared: &Shared<W::Answer>,
+fn take_apart<W: PoolWork>(
+    shared: &Common<W::Answer>,
     pass: &mut AnswerPass<W::Answer>,
     mut members: Vec<Member<W::Task, W::Answer>>,
     ran: &mut Vec<u64>,
@@ -104,7 +104,7 @@ fn close_all<T: Drop>(mut owners: Vec<OwnDeque<T>>, mut deques: Vec<Ends<T>>) ->
 
 /// Joins the takers and passes of all workers once they have ended, and tells what the pool has done. The caller has
 /// taken back or received an answer to as many tasks as it gave.
-pub fn close<W: Work>(
+pub fn close<W: PoolWork>(
     caller: Caller<'_, W>,
     members: Vec<Member<W::Task, W::Answer>>,
     space: Space<W::Task>,

@@ -1,7 +1,7 @@
 //! What is left of a pool.
 
+use crate::common::AnswerPass;
 use crate::ends::Ends;
-use crate::shared::AnswerPass;
 
 /// What went through a pool whose threads have ended.
 #[derive(Drop)]

@@ -4,19 +4,19 @@ ghost use Rattle.std.specs.List.{All};
 ghost use Rattle.std.specs.Thread.{IsSync};
 ghost use Rattle.ht_pool.specs.Members.{HasYetToServe, HasServed, HaveServed, workplace_of};
 
+use crate::common::Common;
 use crate::member::Member;
 use crate::serve::serve;
-use crate::shared::Shared;
-use crate::work::Work;
+use crate::work::PoolWork;
 use std::sync::Wait;
 use std::thread;
 use std::thread::{Threads, join_mut};
 
 // Runs the workers, each in a thread of its own.
-fn crew<W: Work + Sync, R: Threads + Wait + Sync>(
+fn crew<W: PoolWork + Sync, R: Threads + Wait + Sync>(
     rt: &R,
     work: &W,
-    shared: &Shared<W::Answer>,
+    shared: &Common<W::Answer>,
     mut members: Vec<Member<W::Task, W::Answer>>,
 ) -> Vec<Member<W::Task, W::Answer>>
     requires fresh { All (HasYetToServe shared.now) members.items }
@@ -47,10 +47,10 @@ fn crew<W: Work + Sync, R: Threads + Wait + Sync>(
 }
 
 // The same for workers that are lent.
-fn run_crew<W: Work + Sync, R: Threads + Wait + Sync>(
+fn run_crew<W: PoolWork + Sync, R: Threads + Wait + Sync>(
     rt: &R,
     work: &W,
-    shared: &Shared<W::Answer>,
+    shared: &Common<W::Answer>,
     members: &mut Option<Vec<Member<W::Task, W::Answer>>>,
 )
     requires { IfSome members.old (λ before. All (HasYetToServe shared.now) before.items × (vec_len before ≤ vec_capacity before)) }
@@ -65,10 +65,10 @@ fn run_crew<W: Work + Sync, R: Threads + Wait + Sync>(
 
 /// Calls the caller in this thread, beside the workers, each in a thread of its own. Once the caller has returned, the
 /// workers end as soon as they find no more tasks. Where no thread can be made, the workers run after the caller.
-pub fn beside<W: Work + Sync, R: Threads + Wait + Sync, C: FnMut() -> B, B>(
+pub fn beside<W: PoolWork + Sync, R: Threads + Wait + Sync, C: FnMut() -> B, B>(
     rt: &R,
     work: &W,
-    shared: &Shared<W::Answer>,
+    shared: &Common<W::Answer>,
     members: Vec<Member<W::Task, W::Answer>>,
     caller: &mut C,
 ) -> (Vec<Member<W::Task, W::Answer>>, B)

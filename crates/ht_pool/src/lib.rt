@@ -1,6 +1,6 @@
 //! A pool of workers that steal, for any kind of work.
 //!
-//! A [`Work`](work::Work) says what a task is, what an answer is, which task an answer is of, and how much is in a task.
+//! A [`PoolWork`](work::PoolWork) says what a task is, what an answer is, which task an answer is of, and how much is in a task.
 //! [`Pool::open`](pool::Pool::open) takes all the memory that a pool needs. Its parts are what the threads share, the end of the
 //! caller, and the workers. With a [`Caller`](caller::Caller) the calling thread gives tasks to the pool, takes tasks back that
 //! no worker took and runs them, and receives answers. [`beside`](crew::beside) runs the workers, each in a thread of its own,
@@ -21,6 +21,7 @@ pub mod caller;
 pub mod caller_end;
 pub mod close;
 pub mod closed;
+pub mod common;
 pub mod crew;
 pub mod ends;
 mod first;
@@ -33,7 +34,6 @@ pub mod pass_log;
 pub mod pool;
 pub mod rule;
 mod serve;
-pub mod shared;
 pub mod space;
 pub mod taker;
 pub mod work;

@@ -1,7 +1,7 @@
 //! A worker's own things.
 
+use crate::common::AnswerPass;
 use crate::own::OwnDeque;
-use crate::shared::AnswerPass;
 use crate::taker::Taker;
 
 /// A worker before its thread begins, and after it has ended.

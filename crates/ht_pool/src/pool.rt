@@ -9,11 +9,11 @@ ghost use Rattle.ht_pool.specs.Opening.{AreReady, own_deques};
 ghost use Rattle.ht_pool.specs.Pools.{IsOpened};
 
 use crate::caller_end::CallerEnd;
+use crate::common::{AnswerPass, AnswerQueue, Common};
 use crate::first::take_first;
 use crate::member::Member;
 use crate::new_deques::open_with_takers;
 use crate::own::OwnDeque;
-use crate::shared::{AnswerPass, AnswerQueue, Shared};
 use crate::space::Space;
 use crate::taker::Taker;
 use std::alloc::{AllocError, Global};
@@ -22,7 +22,7 @@ use std::alloc::{AllocError, Global};
 #[derive(Drop)]
 pub struct Pool<T: Drop, A: Drop> {
     /// What its threads share.
-    pub shared: Shared<A>,
+    pub shared: Common<A>,
     /// The caller's end.
     pub caller_end: CallerEnd<T, A>,
     /// The workers beside the caller.
@@ -55,14 +55,14 @@ impl<T: Drop + Send, A: Drop + Send> Pool<T, A> {
             rows,
             deques,
         };
-        Ok(assemble(Shared::new(answers), pass, members, space))
+        Ok(assemble(Common::new(answers), pass, members, space))
     }
 }
 
 // The pool with these deques and takers: the caller has the first deque and the last row of takers, and each other deque with
 // its row is a worker's. No worker is there yet in `members`, which has room for all. It takes no memory.
 fn assemble<T: Drop, A: Drop>(
-    shared: Shared<A>,
+    shared: Common<A>,
     mut pass: AnswerPass<A>,
     mut members: Vec<Member<T, A>>,
     space: Space<T>,
@@ -111,7 +111,7 @@ fn assemble<T: Drop, A: Drop>(
 
 // Makes the workers of their deques and takers, and cuts their passes on the queue off.
 fn make_members<T: Drop, A: Drop>(
-    shared: &Shared<A>,
+    shared: &Common<A>,
     pass: &mut AnswerPass<A>,
     owners: &mut Vec<OwnDeque<T>>,
     rows: &mut Vec<Vec<Taker<T>>>,

@@ -6,12 +6,12 @@ ghost use Rattle.ht_pool.specs.PassLogs.{pass_log};
 ghost use Rattle.ht_pool.specs.Takers.{deques_at};
 ghost use Rattle.ht_pool.specs.Members.{workplace_of, Balances, IsOnQueue, HasYetToServe, HasServed};
 
+use crate::common::{AnswerPass, Common};
 use crate::lookout::next_task;
 use crate::member::Member;
 use crate::own::OwnDeque;
-use crate::shared::{AnswerPass, Shared};
 use crate::taker::Taker;
-use crate::work::{FULL, Work};
+use crate::work::{FULL, PoolWork};
 use crossbeam_utils::Backoff;
 use crossbeam_utils::sync::Key;
 use std::sync::Wait;
@@ -27,7 +27,7 @@ const PATIENCE: u32 = 256;
 // sleep. All threads see these steps in one order, so the worker finds what is new or the caller finds the worker, and
 // wakes it or ends its sleep before it begins. The end wakes all. A task whose wake went to a worker that came too late
 // for it is with another worker, who runs it, or still on a deque, from which the caller takes it back.
-fn prepare_sleep<A: Drop>(shared: &Shared<A>, looks: u32) -> Option<Key<'_>> {
+fn prepare_sleep<A: Drop>(shared: &Common<A>, looks: u32) -> Option<Key<'_>> {
     if looks >= PATIENCE {
         Some(shared.prepare_sleep())
     } else {
@@ -53,10 +53,10 @@ fn rest<R: Wait>(rt: &R, backoff: &Backoff, sleep: Option<Key<'_>>, looks: u32) 
 
 // Runs tasks and puts their answers on the queue, and helps with what else is waiting before each, until no task comes any
 // more and none is left. Answers how much was in the tasks.
-fn run_tasks<W: Work, R: Wait>(
+fn run_tasks<W: PoolWork, R: Wait>(
     rt: &R,
     work: &W,
-    shared: &Shared<W::Answer>,
+    shared: &Common<W::Answer>,
     takers: &mut [Taker<W::Task>],
     place: u8,
     own: &mut OwnDeque<W::Task>,
@@ -108,10 +108,10 @@ fn run_tasks<W: Work, R: Wait>(
 }
 
 /// Runs tasks of a worker, until no task comes any more and none is left.
-pub(crate) fn serve<W: Work, R: Wait>(
+pub(crate) fn serve<W: PoolWork, R: Wait>(
     rt: &R,
     work: &W,
-    shared: &Shared<W::Answer>,
+    shared: &Common<W::Answer>,
     member: Member<W::Task, W::Answer>,
 ) -> Member<W::Task, W::Answer>
     requires fresh { HasYetToServe shared.now member }

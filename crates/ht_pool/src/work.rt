@@ -7,7 +7,7 @@ use std::sync::Wait;
 pub(crate) const FULL: u64 = 0xffff_ffff_0000_0000;
 
 /// A kind of work. All threads of a pool share its value.
-pub trait Work {
+pub trait PoolWork {
     /// What is to be done.
     type Task: Drop + Send;
 

@@ -9,12 +9,12 @@ use crate::equal::equal;
 use ht_pool::caller::Caller;
 use ht_pool::caller_end::CallerEnd;
 use ht_pool::close::close;
+use ht_pool::common::Common;
 use ht_pool::crew::beside;
 use ht_pool::member::Member;
 use ht_pool::pool::Pool;
-use ht_pool::shared::Shared;
 use ht_pool::space::Space;
-use ht_pool::work::Work;
+use ht_pool::work::PoolWork;
 use std::alloc::{AllocError, Global};
 use std::sync::Wait;
 use std::sync::atomic::{AtomicU64, Ordering};
@@ -60,7 +60,7 @@ impl Squares {
     }
 }
 
-impl Work for Squares {
+impl PoolWork for Squares {
     type Task = u32;
 
     type Answer = Squared;
@@ -130,7 +130,7 @@ fn lead<R: Wait>(rt: &R, work: &Squares, caller: &mut Caller<'_, Squares>) -> u6
 fn add_up<R: Threads + Wait + Sync>(
     rt: &R,
     work: &Squares,
-    shared: &Shared<Squared>,
+    shared: &Common<Squared>,
     caller_end: CallerEnd<u32, Squared>,
     members: Vec<Member<u32, Squared>>,
     space: Space<u32>,

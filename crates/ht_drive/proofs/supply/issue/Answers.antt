@@ -23,4 +23,4 @@ returns-else-not-give-clause-by_number g c =
     let jobs = g.B.Jobs.jobs c.args.block in
     let is : c.give.new.self ≡ gave c.args.caller.now jobs = search rules in
     λ all by_number more. subst (λ (caller : BlockCaller). AreByNumber all (all_in caller.given)) (sym is)
-        (told_given all c.args.caller.now jobs by_number more)
+    (told_given all c.args.caller.now jobs by_number more)

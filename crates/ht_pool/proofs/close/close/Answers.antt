@@ -26,7 +26,7 @@ crew-long deques at own members same first are =
     omega (arith, some, rest, ap length same, ap length are, length-map members workplace_of, length-map (drop 1 deques) (workplace deques))
 
 have_ended : (g : _) (c : After-take_apart g)
-    → HaveEnded g.row.W-Task.Denot g.row.W-Answer.Denot g.W.Work.asked g.W.Work.weight c.caller_end.inside.pass.table_id c.args.caller c.caller_end.inside.own
+    → HaveEnded g.row.W-Task.Denot g.row.W-Answer.Denot g.W.PoolWork.asked g.W.PoolWork.weight c.caller_end.inside.pass.table_id c.args.caller c.caller_end.inside.own
     c.caller_end.inside.takers.items (view c.caller_end.inside.pass) c.args.members.items
 have_ended g c =
     let inv = c.caller_end.invariant in
@@ -38,7 +38,7 @@ have_ended g c =
       own_parts = inv.2;
       answer_parts = inv.3;
       none_pushed = inv.4;
-      served = subst (λ (q : TableId). All (HasServed g.W.Work.asked g.W.Work.weight q) c.args.members.items)
+      served = subst (λ (q : TableId). All (HasServed g.W.PoolWork.asked g.W.PoolWork.weight q) c.args.members.items)
           (sym (ap (λ (v : CallerView g.row.W-Task.Denot g.row.W-Answer.Denot). v.queue) seen)) c.requires.served;
       workplaces_are = c.requires.workplaces;
     }
@@ -66,28 +66,28 @@ pub push_reserved-requires : goal.push_reserved-requires
 push_reserved-requires g c =
     let long = crew-long c.args.caller.deques (deques_at c.caller_end.inside.takers.items) c.caller_end.inside.own.deque c.args.members.items
     (ap (λ (v : CallerView g.row.W-Task.Denot g.row.W-Answer.Denot). v.deques)
-        (c.caller_end.view_is ∙ c.caller.view_is)) c.caller_end.invariant.1 c.requires.workplaces in
+    (c.caller_end.view_is ∙ c.caller.view_is)) c.caller_end.invariant.1 c.requires.workplaces in
     omega (arith, long, ap length c.requires.space.ran.0, c.requires.space.ran.1)
 
 pub push_reserved-requires-2 : goal.push_reserved-requires-2
 push_reserved-requires-2 g c =
     let long = crew-long c.args.caller.deques (deques_at c.caller_end.inside.takers.items) c.caller_end.inside.own.deque c.args.members.items
     (ap (λ (v : CallerView g.row.W-Task.Denot g.row.W-Answer.Denot). v.deques)
-        (c.caller_end.view_is ∙ c.caller.view_is)) c.caller_end.invariant.1 c.requires.workplaces in
+    (c.caller_end.view_is ∙ c.caller.view_is)) c.caller_end.invariant.1 c.requires.workplaces in
     omega (arith, long, ap length c.requires.space.owners.0, c.requires.space.owners.1)
 
 pub push_reserved-requires-3 : goal.push_reserved-requires-3
 push_reserved-requires-3 g c =
     let long = crew-long c.args.caller.deques (deques_at c.caller_end.inside.takers.items) c.caller_end.inside.own.deque c.args.members.items
     (ap (λ (v : CallerView g.row.W-Task.Denot g.row.W-Answer.Denot). v.deques)
-        (c.caller_end.view_is ∙ c.caller.view_is)) c.caller_end.invariant.1 c.requires.workplaces in
+    (c.caller_end.view_is ∙ c.caller.view_is)) c.caller_end.invariant.1 c.requires.workplaces in
     omega (arith, long, ap length c.requires.space.rows.0, c.requires.space.rows.1)
 
 pub take_apart-requires-clause-numbers : goal.take_apart-requires-clause-numbers
 take_apart-requires-clause-numbers g c =
     let long = crew-long c.args.caller.deques (deques_at c.caller_end.inside.takers.items) c.caller_end.inside.own.deque c.args.members.items
     (ap (λ (v : CallerView g.row.W-Task.Denot g.row.W-Answer.Denot). v.deques)
-        (c.caller_end.view_is ∙ c.caller.view_is)) c.caller_end.invariant.1 c.requires.workplaces in
+    (c.caller_end.view_is ∙ c.caller.view_is)) c.caller_end.invariant.1 c.requires.workplaces in
     omega (
       arith,
       long,
@@ -102,7 +102,7 @@ pub take_apart-requires-clause-places : goal.take_apart-requires-clause-places
 take_apart-requires-clause-places g c =
     let long = crew-long c.args.caller.deques (deques_at c.caller_end.inside.takers.items) c.caller_end.inside.own.deque c.args.members.items
     (ap (λ (v : CallerView g.row.W-Task.Denot g.row.W-Answer.Denot). v.deques)
-        (c.caller_end.view_is ∙ c.caller.view_is)) c.caller_end.invariant.1 c.requires.workplaces in
+    (c.caller_end.view_is ∙ c.caller.view_is)) c.caller_end.invariant.1 c.requires.workplaces in
     omega (
       arith,
       long,
@@ -117,7 +117,7 @@ pub take_apart-requires-clause-room : goal.take_apart-requires-clause-room
 take_apart-requires-clause-room g c =
     let long = crew-long c.args.caller.deques (deques_at c.caller_end.inside.takers.items) c.caller_end.inside.own.deque c.args.members.items
     (ap (λ (v : CallerView g.row.W-Task.Denot g.row.W-Answer.Denot). v.deques)
-        (c.caller_end.view_is ∙ c.caller.view_is)) c.caller_end.invariant.1 c.requires.workplaces in
+    (c.caller_end.view_is ∙ c.caller.view_is)) c.caller_end.invariant.1 c.requires.workplaces in
     omega (
       arith,
       long,
@@ -165,7 +165,7 @@ returns g c =
     let waiting = c.learn.ensures.whole in
     let ran_are = put_first c.caller.inside.ran c.requires.space.ran.0 c.push_reserved.ensures.items c.take_apart.ensures.ran
     ∙ ap (λ (n : ℕ). n ∷ map (λ (m : Member g.row.W-Task.Denot g.row.W-Answer.Denot). m.ran) c.args.members.items)
-    (c.caller.invariant.1 ∙ ap (λ (v : CallerView g.row.W-Task.Denot g.row.W-Answer.Denot). sum_by g.W.Work.weight v.taken) c.caller.view_is) in
+    (c.caller.invariant.1 ∙ ap (λ (v : CallerView g.row.W-Task.Denot g.row.W-Answer.Denot). sum_by g.W.PoolWork.weight v.taken) c.caller.view_is) in
     has_run _ _ _ _ _ _ _ _ (have_ended g (goal.at.returns g c).After-take_apart) (view c.take_apart.new.pass) c.take_apart.ensures.collected
     waiting.0 waiting.1 c.requires.settled (map through c.close_all.result.items)
     (c.close_all.ensures.through ∙ ap (λ (os : List (OwnView g.row.W-Task.Denot)). map ended os) joined)

@@ -18,7 +18,7 @@ loop-member-preserved g c =
     let rest : List (Member g.row.W-Task.Denot g.row.W-Answer.Denot) = c.take_first.new.all.items in
     let first : left ≡ m ∷ rest = c.in-Some.ensures.items in
     let long : length left ≡ length rest + 1 = ap length first ∙ omega arith in
-    let served = all_first (HasServed g.W.Work.asked g.W.Work.weight c.args.shared.now) left rest m first was.served in
+    let served = all_first (HasServed g.W.PoolWork.asked g.W.PoolWork.weight c.args.shared.now) left rest m first was.served in
     let joined = c.absorb.ensures.joined in
     let pushed : (view c.absorb.new.pass).pushed ≡ (view c.loop-member.pass).pushed ++ (answers_of m).pushed =
     ap (λ (v : PassLog g.row.W-Answer.Denot). v.pushed) joined in

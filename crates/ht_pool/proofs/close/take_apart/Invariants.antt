@@ -8,7 +8,7 @@ use Rattle.ht_pool.proofs.close.take_apart.Given as goal
 
 abbrev pub invariant-loop-member : goal.invariant-loop-member
 invariant-loop-member g l = record {
-  served : All (HasServed g.W.Work.asked g.W.Work.weight l.shared) l.members.items;
+  served : All (HasServed g.W.PoolWork.asked g.W.PoolWork.weight l.shared) l.members.items;
   queue : IsOnQueue l.shared l.pass;
   some : 0 < (view l.pass).parts;
   numbers : length l.ran.items + length l.members.items ≤ vec_capacity l.ran;

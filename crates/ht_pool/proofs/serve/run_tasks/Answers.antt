@@ -24,15 +24,15 @@ loop-preserved-in-Some-next_task g c =
       queue = c.deliver-pass.ensures.queue;
       part = ap (λ (v : PassLog g.row.W-Answer.Denot). v.parts) gave ∙ was.part;
       none_received = ap (λ (v : PassLog g.row.W-Answer.Denot). v.taken) gave ∙ was.none_received;
-      balanced = balances-ran g.W.Work.asked c.loop.takers c.next_task.new.takers c.loop.own c.next_task.new.own (answer_view c.loop.pass).pushed
+      balanced = balances-ran g.W.PoolWork.asked c.loop.takers c.next_task.new.takers c.loop.own c.next_task.new.own (answer_view c.loop.pass).pushed
           (answer_view c.deliver-pass.result).pushed c.in-Some-next_task.task c.answer_to.result gets c.answer_to.ensures more was.balanced;
       ran = omega (
         arith,
         was.ran,
-        ap (λ (xs : List g.row.W-Answer.Denot). sum_by g.W.Work.weight (map g.W.Work.asked xs)) more,
-        ap (sum_by g.W.Work.weight) (map-append g.W.Work.asked (answer_view c.loop.pass).pushed (c.answer_to.result ∷ [])),
-        sum_by-append g.W.Work.weight (map g.W.Work.asked (answer_view c.loop.pass).pushed) (g.W.Work.asked c.answer_to.result ∷ []),
-        ap g.W.Work.weight c.answer_to.ensures,
+        ap (λ (xs : List g.row.W-Answer.Denot). sum_by g.W.PoolWork.weight (map g.W.PoolWork.asked xs)) more,
+        ap (sum_by g.W.PoolWork.weight) (map-append g.W.PoolWork.asked (answer_view c.loop.pass).pushed (c.answer_to.result ∷ [])),
+        sum_by-append g.W.PoolWork.weight (map g.W.PoolWork.asked (answer_view c.loop.pass).pushed) (g.W.PoolWork.asked c.answer_to.result ∷ []),
+        ap g.W.PoolWork.weight c.answer_to.ensures,
         c.weigh-weight.ensures,
       );
     }
@@ -50,7 +50,7 @@ loop-preserved g c =
       queue = was.queue;
       part = was.part;
       none_received = was.none_received;
-      balanced = balances-still g.W.Work.asked c.loop.takers c.next_task.new.takers c.loop.own c.next_task.new.own (answer_view c.loop.pass).pushed gets
+      balanced = balances-still g.W.PoolWork.asked c.loop.takers c.next_task.new.takers c.loop.own c.next_task.new.own (answer_view c.loop.pass).pushed gets
           was.balanced;
       ran = was.ran;
     }
@@ -59,5 +59,5 @@ pub returns-then-last-clause-balanced : goal.returns-then-last-clause-balanced
 returns-then-last-clause-balanced g c =
     let gets = subst (λ (task : Option g.row.W-Task.Denot). Gets c.loop.takers c.loop.own c.next_task.new.takers c.next_task.new.own task)
     c.in-None-next_task.is c.next_task.ensures in
-    balances-still g.W.Work.asked c.loop.takers c.next_task.new.takers c.loop.own c.next_task.new.own (answer_view c.loop.pass).pushed gets
+    balances-still g.W.PoolWork.asked c.loop.takers c.next_task.new.takers c.loop.own c.next_task.new.own (answer_view c.loop.pass).pushed gets
     c.loop.invariant.balanced

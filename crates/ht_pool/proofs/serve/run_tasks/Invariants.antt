@@ -14,6 +14,6 @@ invariant-loop g l = record {
   queue : IsOnQueue l.shared l.pass;
   part : (answer_view l.pass).parts ≡ 1;
   none_received : (answer_view l.pass).taken ≡ [];
-  balanced : Balances g.W.Work.asked l.takers l.own (answer_view l.pass).pushed;
-  ran : l.ran ≡ sum_by g.W.Work.weight (map g.W.Work.asked (answer_view l.pass).pushed);
+  balanced : Balances g.W.PoolWork.asked l.takers l.own (answer_view l.pass).pushed;
+  ran : l.ran ≡ sum_by g.W.PoolWork.weight (map g.W.PoolWork.asked (answer_view l.pass).pushed);
 }

@@ -1,6 +1,6 @@
 use Rattle.std.proofs.Common.{◌≡◌}
 use Rattle.crossbeam_queue.specs.Passes.{view, IsPassOf}
-use Rattle.ht_pool.proofs.shared.deliver.Given as goal
+use Rattle.ht_pool.proofs.common.deliver.Given as goal
 
 abbrev pub invariant-loop : goal.invariant-loop
 invariant-loop g l = record {

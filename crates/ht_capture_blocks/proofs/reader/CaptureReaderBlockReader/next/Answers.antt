@@ -2,7 +2,7 @@ use Rattle.std.proofs.Common.{◌<◌, ◌≤◌, ◌+◌, [], ◌∷◌, length
 use Rattle.ht_capture.specs.declared.block_item.BlockItem.{BlockItem}
 use Rattle.ht_capture.specs.declared.block_item.BlockItem.TheVariants.{Block, Frame}
 use Rattle.ht_capture.specs.declared.items.Item.TheVariants.{Frame as FrameItem}
-use Rattle.ht_capture.specs.Blocks.{GivesBlock}
+use Rattle.ht_capture.specs.Blocks.{GivesBlockItem}
 use Rattle.ht_capture.specs.Readers.{finished, more, shown_by}
 use Rattle.ht_capture_blocks.proofs.Coming.{HasCome, has_come}
 use Rattle.ht_capture_blocks.proofs.Mapping.{block_counts, completes, gives, gives_block, halts, head_counts, unfinished}
@@ -59,7 +59,7 @@ returns-in-Ok-Done-clause-told g c =
     let source = g.S.Source.shown c.args.source.now in
     let after = g.S.Source.shown c.next_block.new.source in
     completes old source after
-    (subst (λ (item : BlockItem). GivesBlock (shown_by old source) (shown_by c.next_block.new.self after) item) c.in-Ok-Done.field-0-is
+    (subst (λ (item : BlockItem). GivesBlockItem (shown_by old source) (shown_by c.next_block.new.self after) item) c.in-Ok-Done.field-0-is
     (c.in-Ok-Done.ensures.told (unfinished (finished old) c.requires.going)))
 
 pub returns-in-Err-clause-told : goal.returns-in-Err-clause-told

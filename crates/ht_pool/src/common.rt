@@ -22,13 +22,13 @@ pub type AnswerPass<A> = Pass<A, PassLog<A>>;
 /// The queue of answers, a flag that tells the workers that no task comes any more, and what idle workers sleep on.
 /// Contracts see which queue it is; none rests on the other two.
 #[derive(Drop)]
-pub struct Shared<A: Drop> {
+pub struct Common<A: Drop> {
     pub(crate) answers: AnswerQueue<A>,
     done: CachePadded<AtomicBool>,
     news: CachePadded<EventCount>,
 }
 
-impl<A: Drop> Model for Shared<A> {
+impl<A: Drop> Model for Common<A> {
     ghost use Rattle.atomic_table.specs.Seated.{TableId};
     ghost use Rattle.ht_pool.specs.Members.{queue_of};
 
@@ -37,12 +37,12 @@ impl<A: Drop> Model for Shared<A> {
     ghost view = { λ s. queue_of s.answers };
 }
 
-impl<A: Drop> Shared<A> {
+impl<A: Drop> Common<A> {
     /// What threads share that have yet to begin.
-    pub(crate) fn new(answers: AnswerQueue<A>) -> Shared<A>
+    pub(crate) fn new(answers: AnswerQueue<A>) -> Common<A>
         ensures { result ≡ queue_of answers }
     {
-        Shared {
+        Common {
             answers,
             done: CachePadded::new(AtomicBool::new(false)),
             news: CachePadded::new(EventCount::new()),
