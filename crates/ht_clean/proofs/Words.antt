@@ -305,17 +305,21 @@ none-poured pattern received u steps =
     subst (λ (t : ℕ). IsPoured pattern received u t 0 0) none (record { sparse = λ s lt. absurd (omega (arith, lt)); level = refl; wrong = refl })
 
 -- one bit of the input more
-pub unpacked-none : (pattern : Pattern) (words : List ℕ) → unpacked pattern words 0 ≡ []
+pub unpacked-none : (pattern : Pattern) (words : List ℕ) → unpacked pattern words (0 * word_steps pattern) ≡ []
 unfolding unpacked
-unpacked-none pattern words = refl
+unpacked-none pattern words = ap (λ (n : ℕ). unpacked pattern words n) (let none : 0 * word_steps pattern ≡ 0 = omega arith in none)
 
-pub unpacked-more : (pattern : Pattern) (words : List ℕ) (step : ℕ) (items new : List Bool) (bit : Bool) → items ≡ unpacked pattern words step
-    → new ≡ items ++ bit ∷ [] → bit ≡ input_bit pattern words step → new ≡ unpacked pattern words (step + 1)
+pub unpacked-more : (pattern : Pattern) (words : List ℕ) (at step : ℕ) (items new : List Bool) (bit : Bool) → step < word_steps pattern
+    → items ≡ unpacked pattern words (at * word_steps pattern + step)
+    → new ≡ items ++ bit ∷ [] → bit ≡ flag (get_or words at 0) step → new ≡ unpacked pattern words (at * word_steps pattern + (step + 1))
 unfolding unpacked
-unpacked-more pattern words step items new bit is more bit-is =
+unpacked-more pattern words at step items new bit low is more bit-is =
+    let t : ℕ = at * word_steps pattern + step in
+    let next : t + 1 ≡ at * word_steps pattern + (step + 1) = omega arith in
     more
     ∙ (ap (λ (z : List Bool). z ++ bit ∷ []) is
-    ∙ (ap (λ (b : Bool). unpacked pattern words step ++ b ∷ []) bit-is ∙ sym (map-range_with_len_more (input_bit pattern words) 0 step step (omega arith))))
+    ∙ (ap (λ (b : Bool). unpacked pattern words t ++ b ∷ []) (bit-is ∙ sym (bit-in pattern words at step t low refl))
+    ∙ (sym (map-range_with_len_more (input_bit pattern words) 0 t t (omega arith)) ∙ ap (λ (n : ℕ). unpacked pattern words n) next)))
 
 -- the words of the input have all steps
 pub words-cover : (pattern : Pattern) (steps count width long : ℕ) → width ≡ word_steps pattern → count ≡ div_ceil steps width → count ≤ long

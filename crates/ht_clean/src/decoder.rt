@@ -1,17 +1,17 @@
 //! The decoder of words with few wrong places.
-ghost use Rattle.std.specs.Prelude.{◌≡◌, ◌+◌, ◌*◌, ◌<◌, ◌≤◌, IfOk, IfSome, length};
+ghost use Rattle.std.specs.Prelude.{◌≡◌, ◌+◌, ◌*◌, ◌<◌, ◌≤◌, IfOk, IfSome, length, vec_capacity};
 ghost use Rattle.ht_conv.specs.Puncturing.{sent_count};
 ghost use Rattle.ht_viterbi.specs.Inputs.{IsFound, place_cost, tail};
 ghost use Rattle.ht_viterbi.specs.Packed.{packed, word_steps};
 ghost use Rattle.ht_clean.specs.Sparse.{input_bit, unpacked};
 
-use crate::check::{bit_at, wrong_if_nearest};
+use crate::check::wrong_if_nearest;
 use crate::guess::guess;
 use crate::layout::steps_of_word;
 use crate::peel::peel;
 use ht_bits::Bits;
 use ht_rate::Pattern;
-use ht_viterbi::Codeword;
+use ht_viterbi::{Codeword, decode_packed};
 use std::alloc::{AllocError, Global};
 
 /// The nearest input in words, and its distance.
@@ -67,6 +67,24 @@ pub fn decode_sparse_words(
     }
 }
 
+// Appends the bits of a word's first steps, which come next.
+#[inline(always)]
+fn push_word(pattern: Pattern, words: &[u64], bits: &mut Vec<bool>, at: u32, count: u32)
+    requires count { count ≤ word_steps pattern }
+    requires within { at * word_steps pattern + count ≤ word_steps pattern * length words.now }
+    requires room { at * word_steps pattern + count ≤ vec_capacity bits.old }
+    requires so_far { bits.old.items ≡ unpacked pattern words.now (at * word_steps pattern) }
+    ensures items { bits.new.items ≡ unpacked pattern words.now (at * word_steps pattern + count) }
+    ensures capacity { vec_capacity bits.new ≡ vec_capacity bits.old }
+{
+    if count > 0 {
+        let word = words[at as usize];
+        for step in 0..count {
+            bits.push_reserved(word >> step & 1 == 1);
+        }
+    }
+}
+
 // The bits of the first steps, where words hold the input.
 fn unpacked_bits(
     alloc: Global,
@@ -77,10 +95,13 @@ fn unpacked_bits(
     requires { steps ≤ word_steps pattern * length words.now }
     ensures { IfOk result (λ bits. bits.items ≡ unpacked pattern words.now steps) }
 {
+    let width = steps_of_word(pattern);
+    let whole = steps / width;
     let mut bits = Vec::with_capacity(alloc, steps as usize)?;
-    for step in 0..steps {
-        bits.push_reserved(bit_at(pattern, words, step));
+    for at in 0..whole {
+        push_word(pattern, words, &mut bits, at, width);
     }
+    push_word(pattern, words, &mut bits, whole, steps % width);
     Ok(bits)
 }
 
@@ -109,5 +130,26 @@ pub fn decode_sparse(
             }))
         }
         None => Ok(None),
+    }
+}
+
+/// Decodes a punctured codeword of which no place is erased, as [`decode_packed`] does and from the same words: by the guess of
+/// [`decode_sparse`] where its wrong places lie far enough apart, else by the trellis.
+///
+/// IEEE Std 802.11-2012, clauses 18.3.5.6 and 20.3.11.6.
+pub fn decode_words(
+    alloc: Global,
+    steps: u32,
+    pattern: Pattern,
+    words: &[u64],
+) -> Result<Codeword, AllocError>
+    requires least { tail ≤ steps }
+    requires most { steps ≤ 524302 }
+    requires places { sent_count pattern steps ≤ 60 * length words.now }
+    ensures { IfOk result (λ c. IsFound place_cost steps pattern (packed words.now (sent_count pattern steps)) c.input c.distance) }
+{
+    match decode_sparse(alloc, steps, pattern, words)? {
+        Some(found) => Ok(found),
+        None => decode_packed(alloc, steps, pattern, words),
     }
 }

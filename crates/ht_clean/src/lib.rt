@@ -2,7 +2,8 @@
 //!
 //! Most codewords come with no wrong place or with single ones, far from each other. [`decode_sparse`] takes the places of
 //! such a word, 60 to a word of 64 bits, and answers with the first nearest terminated input and its distance, as
-//! [`decode_packed`](ht_viterbi::decode_packed) does; of any other word it answers None, which says nothing.
+//! [`decode_packed`](ht_viterbi::decode_packed) does; of any other word it answers None, which says nothing. [`decode_words`]
+//! goes on with the trellis there, and answers for every word.
 //!
 //! 1. The input is guessed: each bit is a sum of received places of its step and of some before it, so that one wrong place
 //!    misleads the guess for at most 27 steps.
@@ -34,4 +35,4 @@ mod planes;
 #[cfg(test)]
 mod tests;
 
-pub use decoder::{PackedInput, decode_sparse, decode_sparse_words};
+pub use decoder::{PackedInput, decode_sparse, decode_sparse_words, decode_words};

@@ -7,7 +7,8 @@
 //!
 //! 1. Each encoder's coded bits are gathered from the labels, each from the place where it lands. On an erased
 //!    subcarrier there is none. Where nothing is erased they are packed into words of 60.
-//! 2. `ht_viterbi` gives the first of the inputs that are nearest to them and end with the tail.
+//! 2. `ht_clean`, or `ht_viterbi` where something is erased, gives the first of the inputs that are nearest to them and end
+//!    with the tail.
 //! 3. The inputs without their tails are put together. The first seven bits give the seed of the scrambler; seven zeros
 //!    are the beginning of no sequence, and the outcome is [`Outcome::SeedZero`].
 //! 4. What stands behind the 16 bits of SERVICE, descrambled, are the octets, the least significant bit of each first.

@@ -16,10 +16,11 @@ use crate::frame_labels::FrameLabels;
 use crate::label_bit::LabelBit;
 use crate::label_values::{Decisions, LabelValues, Marks, Values};
 use crate::words::packed_words;
+use ht_clean::decode_words;
 use ht_conv::sent;
 use ht_landing::Landing;
 use ht_rate::Rate;
-use ht_viterbi::{Codeword, ReceivedBit, decode_packed, decode_received};
+use ht_viterbi::{Codeword, ReceivedBit, decode_received};
 use std::alloc::{AllocError, Global};
 
 /// Where the labels of a symbol have the coded bits of an encoder's share, in their order.
@@ -268,7 +269,7 @@ impl Share {
         ensures { IfOk result (IsNearest self.now.rate frame.now.octets self.now.erased frame.now.labels.now self.now.encoder steps) }
     {
         let words = self.packed(alloc, frame)?;
-        decode_packed(alloc, steps, self.rate.pattern(), &words)
+        decode_words(alloc, steps, self.rate.pattern(), &words)
     }
 
     // The nearest codeword of a frame of which bits may be lost.

@@ -8,8 +8,8 @@ ghost use Rattle.ht_legacy_inverse.specs.Received.{labels_in_frame};
 use crate::gather::{received_words, steps};
 use ht_bits::Bits;
 use ht_clause18::LegacyRate;
+use ht_clean::decode_words;
 use ht_inverse::{Decoded, Outcome, come_to};
-use ht_viterbi::decode_packed;
 use std::alloc::{AllocError, Global};
 
 // The bits of SERVICE.
@@ -42,7 +42,7 @@ pub fn legacy_decode_frame(
     ensures { IfOk result (λ frame. frame ≡ legacy_decoded_frame rate octets labels.now) }
 {
     let words = received_words(alloc, rate, octets, labels)?;
-    let codeword = decode_packed(alloc, steps(octets), rate.pattern(), words.as_slice())?;
+    let codeword = decode_words(alloc, steps(octets), rate.pattern(), words.as_slice())?;
     let code = codeword.distance;
     let outcome = input_comes_to(alloc, octets, codeword.input)?;
     Ok(Decoded { outcome, code })

@@ -7,7 +7,7 @@
 //!
 //! 1. Each symbol has the next N_CBPS coded bits, and each of them is taken from the label bit where the interleaver puts
 //!    it.
-//! 2. `ht_viterbi` gives the first of the inputs that are nearest to them and end with the tail of six zeros.
+//! 2. `ht_clean` gives the first of the inputs that are nearest to them and end with the tail of six zeros.
 //! 3. The first seven bits of the input give the seed of the scrambler; seven zeros are the beginning of no sequence. What
 //!    stands between SERVICE and the tail, descrambled, are the octets.
 //!

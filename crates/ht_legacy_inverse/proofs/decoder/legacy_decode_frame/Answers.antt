@@ -7,8 +7,8 @@ use Rattle.ht_legacy_inverse.specs.Received.{received_of}
 use Rattle.ht_legacy_inverse.proofs.Codewords.{codeword-is, frame-is}
 use Rattle.ht_legacy_inverse.proofs.decoder.legacy_decode_frame.Goals as goal
 
-pub decode_packed-requires-clause-places : goal.decode_packed-requires-clause-places
-decode_packed-requires-clause-places c =
+pub decode_words-requires-clause-places : goal.decode_words-requires-clause-places
+decode_words-requires-clause-places c =
     let words = c.in_ok-words.words.items in
     subst (λ (ws : List ℕ). sent_count c.pattern.result c.steps.result ≤ 60 * length ws) (sym c.as_slice.ensures.value)
     (subst (λ (n : ℕ). sent_count c.pattern.result n ≤ 60 * length words) (sym c.steps.ensures.value)

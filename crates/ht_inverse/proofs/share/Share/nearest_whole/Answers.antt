@@ -9,8 +9,8 @@ use Rattle.ht_inverse.specs.Shares.{IsNearest}
 use Rattle.ht_inverse.proofs.Codewords.{found-nearest}
 use Rattle.ht_inverse.proofs.share.Share.nearest_whole.Goals as goal
 
-pub decode_packed-requires-clause-places : goal.decode_packed-requires-clause-places
-decode_packed-requires-clause-places c =
+pub decode_words-requires-clause-places : goal.decode_words-requires-clause-places
+decode_words-requires-clause-places c =
     let s = c.args.self.now in
     subst (λ (ws : List ℕ). sent_count c.pattern.result c.args.steps ≤ 60 * length ws) (sym c.deref.ensures.value)
     (subst (λ (n : ℕ). sent_count c.pattern.result n ≤ 60 * length c.in_ok-words.words.items) (sym c.requires.steps.2)
@@ -25,10 +25,10 @@ returns c =
     let words = c.deref.result.now in
     let octets = c.args.frame.now.octets in
     let labels = c.args.frame.now.labels.now in
-    IfOk-weaker c.decode_packed.result (λ codeword. IsFound place_cost steps p (packed words (sent_count p steps)) codeword.input codeword.distance)
+    IfOk-weaker c.decode_words.result (λ codeword. IsFound place_cost steps p (packed words (sent_count p steps)) codeword.input codeword.distance)
     (IsNearest s.rate octets s.erased labels s.encoder steps)
     (λ codeword. found-nearest s.rate octets s.erased s.encoder steps labels p (packed words (sent_count p steps)) codeword c.pattern.ensures
     (ap (λ (q : Pattern). packed words (sent_count q steps)) c.pattern.ensures
     ∙ (ap (λ (n : ℕ). packed words (sent_count (pattern_of s.rate) n)) c.requires.steps.2
     ∙ (ap (λ (ws : List ℕ). packed ws (sent_count (pattern_of s.rate) (steps_of s.rate octets))) c.deref.ensures.value ∙ c.in_ok-words.ensures.list))))
-    c.decode_packed.ensures
+    c.decode_words.ensures
