@@ -1,5 +1,5 @@
 -- A job and its lane.
-use Rattle.std.proofs.Common.{◌≡◌, ℕ, zero, suc, ◌+◌, ◌^◌, ◌<◌, ◌≤◌, [], ◌∷◌, length, take, replicate, set, slice_index, slice_index_or, arith, refl, ap}
+use Rattle.std.proofs.Common.{◌≡◌, ℕ, zero, suc, ◌+◌, ◌^◌, ◌<◌, [], ◌∷◌, length, take, replicate, set, slice_index, slice_index_or, arith, refl, ap}
 use Rattle.std.proofs.Common.{subst, sym, inl, inr, ◌∙◌}
 use Rattle.std.proofs.lemmas.List.{get_or-set_same, get_or-set_other, length-set}
 use Rattle.std.proofs.lemmas.Bool.{cases_lt}
@@ -15,7 +15,7 @@ use Rattle.ht_rounding.specs.declared.streams.Channel.{Channel}
 use Rattle.ht_rounding.specs.declared.streams.Four.{Four}
 use Rattle.ht_rounding.specs.declared.streams.SampleLanes.{SampleLanes}
 use Rattle.ht_rounding.specs.InLanes.{AreFew, Finds, IsInLane, axes_of, points_at}
-use Rattle.ht_rounding.specs.Loading.{HaveSmall, IsLoaded, IsPlain, no_found, no_job}
+use Rattle.ht_rounding.specs.Loading.{IsLoaded, IsPlain, no_found, no_job}
 
 pub second-few : (n : ℕ) (a b c d : Point) → 1 < n → AreFew (take n (a ∷ b ∷ c ∷ d ∷ [])) → IsInRange b
 second-few zero a b c d some few = absurd (omega (arith, some))
@@ -30,14 +30,14 @@ third-few (suc (suc (suc n))) a b c d some few = few.1.1.0
 
 pub in-lane : (i q : Levels) (channel : Channel) (samples : SampleLanes) (k n : ℕ) (job : JobView) (grid : List Axes) → IsJob job → job.grid ≡ grid
     → grid ≡ replicate n (axes_of i q)
-    → HaveSmall job.system → IsLoaded channel samples k job.system → IsInLane i q channel samples k n job
-in-lane i q channel samples k n job grid valid same full small rows =
+    → IsLoaded channel samples k job.system → IsInLane i q channel samples k n job
+in-lane i q channel samples k n job grid valid same full rows =
     let few = valid.grid.few in
     record {
       valid = valid;
       streams = sym valid.streams ∙ ap length (same ∙ full) ∙ length-replicate {A = Axes} n (axes_of i q);
       grid = same ∙ full;
-      rows = rows (omega (arith, few, valid.streams)) small;
+      rows = rows (omega (arith, few, valid.streams));
     }
 
 -- an element is the same whatever stands where there is none
@@ -67,16 +67,16 @@ one-more jobs founds k job found eight lt before e is = (
 pub plain-in-lane : (i q : Levels) (channel : Channel) (samples : SampleLanes) (k n : ℕ) (job : JobView) → IsPlain i q n job
     → IsLoaded channel samples k job.system
     → IsInLane i q channel samples k n job
-plain-in-lane i q channel samples k n job plain loaded = in-lane i q channel samples k n job _ plain.valid plain.grid refl plain.small loaded
+plain-in-lane i q channel samples k n job plain loaded = in-lane i q channel samples k n job _ plain.valid plain.grid refl loaded
 
 -- what a lane has of the job with this number it has of the job
 pub plain-job : (jobs : List JobView) (k : ℕ) (job : JobView) (i q : Levels) (n : ℕ) (found : Four) → job ≡ slice_index_or jobs k no_job
     → job.grid ≡ replicate n (axes_of i q)
-    → IsJob job → HaveSmall job.system
+    → IsJob job
     → (IsPlain i q n (slice_index_or jobs k no_job) → Finds (points_at n found k) (slice_index found.first.rho k) (slice_index_or jobs k no_job))
     → Finds (points_at n found k) (slice_index found.first.rho k) job
-plain-job jobs k job i q n found is grid valid small answers =
-    let plain : IsPlain i q n job = record { valid = valid; grid = grid; small = small } in
+plain-job jobs k job i q n found is grid valid answers =
+    let plain : IsPlain i q n job = record { valid = valid; grid = grid } in
     subst (λ (j : JobView). Finds (points_at n found k) (slice_index found.first.rho k) j) (sym is)
     (answers (subst (λ (j : JobView). IsPlain i q n j) is plain))
 

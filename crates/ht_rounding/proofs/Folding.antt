@@ -65,7 +65,7 @@ holds-size a z lt h = by (is_negative a) refl
         subst (λ (t : Bool). Holds (size a) (signed t z)) (sym e) held
 
 -- what is small and held is true
-pub held : (g : ℕ) (z : ℤ) → g < 2 ^ 14 → unsigned_abs z ≤ 2 ^ 31 + 2 ^ 22 → Holds g z → unsigned_abs z ≡ g
+pub held : (g : ℕ) (z : ℤ) → g < 2 ^ 15 → unsigned_abs z ≤ 2 ^ 31 + 2 ^ 22 → Holds g z → unsigned_abs z ≡ g
 held g z small bound h = omega (arith, ints, h.2)
 
 signed-abs : (b : Bool) (z : ℤ) → unsigned_abs (signed b z) ≡ unsigned_abs z
@@ -139,7 +139,7 @@ turned-below t w lt = by (is_negative t)
     by false = lt
 
 -- twice as many levels
-pub unfolds : (half bound t d s y g x : ℕ) → 1 ≤ half → half ≤ 4 → t < 2 ^ 32 → d < 2 ^ 14 → s ≡ minus (size t) ((d * half) % 2 ^ 32)
+pub unfolds : (half bound t d s y g x : ℕ) → 1 ≤ half → half ≤ 4 → t < 2 ^ 32 → d < 2 ^ 16 → s ≡ minus (size t) ((d * half) % 2 ^ 32)
     → x ≡ turned t ((half + y) % 2 ^ 32) → Proposes half (bound + d * half) s d y g → Proposes (2 * half) bound t d x g
 unfolds half bound t d s y g x some few lt small es ex inner =
     let b = is_negative t in
@@ -163,10 +163,10 @@ unfolds half bound t d s y g x some few lt small es ex inner =
           ap (λ (q : ℤ). gap z d q) is ∙ sym (fold-gap b d half z v) ∙ inner.gap near s_z (folded-abs b z (d * half) bound within) s_holds;
     }
   where
-    less : (d half : ℕ) → d < 2 ^ 14 → half ≤ 4 → d * half < 2 ^ 32
+    less : (d half : ℕ) → d < 2 ^ 16 → half ≤ 4 → d * half < 2 ^ 32
     less d half small few = let m = times-most d half small few in omega (arith, m)
       where
-        times-most : (d half : ℕ) → d < 2 ^ 14 → half ≤ 4 → d * half ≤ 2 ^ 16
+        times-most : (d half : ℕ) → d < 2 ^ 16 → half ≤ 4 → d * half ≤ 2 ^ 18
         times-most d zero small few = omega arith
         times-most d (suc zero) small few = omega arith
         times-most d (suc (suc zero)) small few = omega arith

@@ -1,5 +1,5 @@
 -- Channels in columns, and eight of them in lanes.
-use Rattle.std.proofs.Common.{◌≡◌, ℕ, zero, suc, ◌+◌, ◌-◌, ◌^◌, ◌<◌, ◌≤◌, List, [], ◌∷◌, ◌++◌, length, slice_index, slice_index_or}
+use Rattle.std.proofs.Common.{◌≡◌, ℕ, zero, suc, ◌+◌, ◌-◌, ◌<◌, ◌≤◌, List, [], ◌∷◌, ◌++◌, length, slice_index, slice_index_or}
 use Rattle.std.proofs.Common.{arith, refl, ap, subst, sym, inl, inr, ◌∙◌}
 use Rattle.std.proofs.lemmas.Bool.{cases_lt}
 use Rattle.std.proofs.lemmas.List.{get_or-append_right, get_or_append_left, length-append, length-map}
@@ -92,15 +92,15 @@ row-like lanes y k number xs ys e leg heard =
     let same = diagonal-like xs ys (number - 1) e in
     let size = size-like xs ys e in
     row-loaded lanes y k number ys
-    (λ le small. leg.diagonal (omega (arith, size, le)) (subst (λ (n : ℕ). n < 2 ^ 14) same small) ∙ sym same)
+    (λ le. leg.diagonal (omega (arith, size, le)) ∙ sym same)
     (re-like 0 number xs ys _ e leg.next_re) (im-like 0 number xs ys _ e leg.next_im)
     (re-like 1 number xs ys _ e leg.second_re) (im-like 1 number xs ys _ e leg.second_im)
     (re-like 2 number xs ys _ e leg.third_re) (im-like 2 number xs ys _ e leg.third_im) heard.re heard.im
 
 pub legs-loaded : (channel : Channel) (samples : SampleLanes) (k : ℕ) (xs ys : List Row) → legs ys ≡ legs xs → HasLegs channel k xs → HasSamples samples k ys
     → IsLoaded channel samples k ys
-legs-loaded channel samples k xs ys e all heard few small =
-    rows-loaded _ _ _ _ _ _ _ _ k ys few small (row-like channel.first samples.first k 1 xs ys e all.first heard.first)
+legs-loaded channel samples k xs ys e all heard few =
+    rows-loaded _ _ _ _ _ _ _ _ k ys few (row-like channel.first samples.first k 1 xs ys e all.first heard.first)
     (row-like channel.second samples.second k 2 xs ys e all.second heard.second)
     (row-like channel.third samples.third k 3 xs ys e all.third heard.third)
     (row-like channel.fourth samples.fourth k 4 xs ys e all.fourth heard.fourth)
@@ -115,7 +115,6 @@ plain-like i q n other job like plain =
         streams = ap length like.grid ∙ (plain.valid.streams ∙ sym size);
       };
       grid = like.grid ∙ plain.grid;
-      small = λ j lt. subst (λ (d : ℕ). d < 2 ^ 14) (sym (diagonal-like other.system job.system j like.channel)) (plain.small j (omega (arith, lt, size)));
     }
 
 -- what lanes have of the job that has so many others before it they have of each job like it

@@ -121,10 +121,10 @@ nearest-first l t d x is near =
     same-level (size_of l) t d x y is (place-of l y (in_order (gap t d) (levels (full l)) y one)) near (omega (arith, least, near))
 
 -- so a proposal with a gap below the diagonal is sure
-pub sure : (l : Levels) (t d x g : ℕ) (z : ℤ) → d < 2 ^ 14 → Proposes (size_of l) farthest t d x g → g < d → unsigned_abs z ≤ farthest → Holds t z
+pub sure : (l : Levels) (t d x g : ℕ) (z : ℤ) → g < 2 ^ 15 → Proposes (size_of l) farthest t d x g → g < d → unsigned_abs z ≤ farthest → Holds t z
     → IsSure l d x g (4 * d * (d - g)) z
 sure l t d x g z small p near within h =
-    let e = p.gap (omega arith) z within h in
+    let e = p.gap small z within h in
     let v = cast_signed w32 x in
     let first = nearest-first l z d v p.level (omega (arith, e, near)) in
     record {

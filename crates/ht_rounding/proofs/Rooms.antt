@@ -18,7 +18,7 @@ use Rattle.ht_sphere.proofs.Margins.{least_first}
 use Rattle.ht_rounding.specs.declared.levels.Levels.{Levels}
 use Rattle.ht_rounding.specs.declared.levels.Levels.TheVariants.{One, Two}
 use Rattle.ht_rounding.specs.Words.{Holds, minus, size, turned, is_negative, lesser, over}
-use Rattle.ht_rounding.specs.Proposals.{size_of, full, IsLevel, Proposes, IsSure, Certifies, IsCoordinate, farthest}
+use Rattle.ht_rounding.specs.Proposals.{size_of, full, IsLevel, Proposes, IsSure, Certifies, IsCoordinate, IsCut, farthest}
 use Rattle.ht_rounding.proofs.Folding.{signed, times_minus, holds-size, size-most}
 use Rattle.ht_rounding.proofs.Nearest.{full-ladder, place-of, has-level, seven, sure}
 
@@ -64,33 +64,48 @@ over-is a b la lb = elim (cases_lt a b) [
     plain : (a b : ℕ) → a < 2 ^ 32 → b ≤ a → minus a b ≡ a - b
     plain a b la le = omega arith
 
--- several levels: the room is what the diagonal has over the gap
-pub several : (l : Levels) (t d x g h room : ℕ) → d < 2 ^ 14 → Proposes (size_of l) farthest t d x g → h ≡ lesser g d → room ≡ over d g
+-- a margin may be less
+pub less-margin : (l : Levels) (d x g a b : ℕ) (z : ℤ) → b ≤ a → IsSure l d x g a z → IsSure l d x g b z
+less-margin l d x g a b z le is = record {
+  gap = is.gap;
+  first = is.first;
+  margin = λ y has. elim (is.margin y has) [ inl e ↦ inl e | inr more ↦ inr (omega (arith, more, le)) ];
+  few = is.few;
+}
+
+-- several levels: the room is what the diagonal, cut, has over the gap
+pub several : (l : Levels) (t d cut x g h room : ℕ) → IsCut d cut → Proposes (size_of l) farthest t d x g → h ≡ lesser g cut → room ≡ over cut g
     → Certifies l t d x h room
-several l t d x g h room small p eh er some z within held =
-    let is : room ≡ d - g = er ∙ over-is d g (omega arith) p.left in
-    let near : g < d = omega (arith, is, some) in
-    let same : h ≡ g = eh ∙ lesser-is g d (omega arith) in
-    subst (λ (n : ℕ). IsSure l d x h (4 * d * n) z) (sym is)
-    (subst (λ (n : ℕ). IsSure l d x n (4 * d * (d - g)) z) (sym same) (sure l t d x g z small p near within held))
+several l t d cut x g h room is_cut p eh er some z within held =
+    let few = is_cut.few in
+    let under = is_cut.under in
+    let is : room ≡ cut - g = er ∙ over-is cut g (omega (arith, few)) p.left in
+    let near : g < cut = omega (arith, is, some) in
+    let same : h ≡ g = eh ∙ lesser-is g cut (omega (arith, near)) in
+    let four : 4 * d ≤ 4 * d = omega arith in
+    let less : room ≤ d - g = omega (arith, is, under) in
+    less-margin l d x h (4 * d * (d - g)) (4 * d * room) z (mul-le-mul four less)
+    (subst (λ (n : ℕ). IsSure l d x n (4 * d * (d - g)) z) (sym same)
+    (sure l t d x g z (omega (arith, near, few)) p (omega (arith, near, under)) within held))
 
 -- a margin is positive where there is room
 positive : (d room : ℕ) → 0 < d → 0 < room → 0 < 4 * d * room
 positive d room a b = let e : 1 ≤ 4 * d = omega (arith, a) in let f : 1 ≤ room = omega (arith, b) in let m = mul-le-mul e f in omega (arith, m)
 
 -- one level: there is no other
-pub single : (t d x g h room : ℕ) → d < 2 ^ 14 → Proposes 1 farthest t d x g → h ≡ lesser g 16383 → room ≡ lesser (over (2 ^ 14) g) d
+pub single : (t d cut x g h room : ℕ) → IsCut d cut → Proposes 1 farthest t d x g → h ≡ lesser g 32767 → room ≡ lesser (over (2 ^ 15) g) cut
     → Certifies One t d x h room
-single t d x g h room small p eh er some z within held =
+single t d cut x g h room is_cut p eh er some z within held =
     let v = cast_signed w32 x in
-    let left = lesser-left (over (2 ^ 14) g) d in
-    let near : g < 2 ^ 14 = omega (arith, over-is (2 ^ 14) g (omega arith) p.left, er, left, some) in
+    let left = lesser-left (over (2 ^ 15) g) cut in
+    let under = is_cut.under in
+    let near : g < 2 ^ 15 = omega (arith, over-is (2 ^ 15) g (omega arith) p.left, er, left, some) in
     let margin : IsMargin (full One) z d v (4 * d * room) = λ y has. inl (only y v (among One y has) p.level) in
-    let same : h ≡ g = eh ∙ lesser-is g 16383 (omega (arith, near)) in
-    let right = lesser-right (over (2 ^ 14) g) d in
+    let same : h ≡ g = eh ∙ lesser-is g 32767 (omega (arith, near)) in
+    let right = lesser-right (over (2 ^ 15) g) cut in
     record {
       gap = p.gap near z within held ∙ sym same;
-      first = first-by-margin One z d v (4 * d * room) p.level margin (positive d room (omega (arith, er, right, some)) some);
+      first = first-by-margin One z d v (4 * d * room) p.level margin (positive d room (omega (arith, er, right, some, under)) some);
       margin = margin;
       few = seven One v p.level;
     }
@@ -99,7 +114,7 @@ single t d x g h room small p eh er some z within held =
     only y v p q = omega (arith, ints, p.1, p.2, q.1, q.2)
 
 -- two levels: the other one costs more by four times the diagonal and the size of the target
-size-true : (a d g : ℕ) (w : ℤ) → a ≤ 2 ^ 31 → d < 2 ^ 14 → g < 2 ^ 14 → Holds a w → unsigned_abs (w -ℤ pos d) ≡ g → w ≡ pos a
+size-true : (a d g : ℕ) (w : ℤ) → a ≤ 2 ^ 31 → d < 2 ^ 16 → g < 2 ^ 15 → Holds a w → unsigned_abs (w -ℤ pos d) ≡ g → w ≡ pos a
 size-true a d g w most small near h e = omega (arith, ints, h.2, e)
 
 own : (b : Bool) (d : ℕ) (z : ℤ) → gap z d (signed b (pos 1)) ≡ unsigned_abs (signed b z -ℤ pos d)
@@ -156,23 +171,24 @@ costs-more a d room p q w e la ld ep eq = elim (cases_lt a d) [
   | inr more ↦ wider (a - d) d d room p q ld (omega (arith, more)) (omega (arith, ints, e, ep, more)) (omega (arith, ints, e, eq, more))
 ]
 
-pub pair : (t d x g h room : ℕ) → t < 2 ^ 32 → d < 2 ^ 14 → Proposes 2 farthest t d x g → cast_signed w32 x ≡ signed (is_negative t) (pos 1)
-    → h ≡ lesser g 16383 → room ≡ lesser (over (2 ^ 14) g) (lesser (size t) d) → Certifies Two t d x h room
-pair t d x g h room lt small p sign eh er some z within held =
+pub pair : (t d cut x g h room : ℕ) → t < 2 ^ 32 → IsCut d cut → Proposes 2 farthest t d x g → cast_signed w32 x ≡ signed (is_negative t) (pos 1)
+    → h ≡ lesser g 32767 → room ≡ lesser (over (2 ^ 15) g) (lesser (size t) cut) → Certifies Two t d x h room
+pair t d cut x g h room lt is_cut p sign eh er some z within held =
     let v = cast_signed w32 x in
     let b = is_negative t in
     let a = size t in
     let w = signed b z in
-    let rest = lesser a d in
-    let left = lesser-left (over (2 ^ 14) g) rest in
-    let right = lesser-right (over (2 ^ 14) g) rest in
-    let near : g < 2 ^ 14 = omega (arith, over-is (2 ^ 14) g (omega arith) p.left, er, left, some) in
-    let same : h ≡ g = eh ∙ lesser-is g 16383 (omega (arith, near)) in
+    let under = is_cut.under in
+    let rest = lesser a cut in
+    let left = lesser-left (over (2 ^ 15) g) rest in
+    let right = lesser-right (over (2 ^ 15) g) rest in
+    let near : g < 2 ^ 15 = omega (arith, over-is (2 ^ 15) g (omega arith) p.left, er, left, some) in
+    let same : h ≡ g = eh ∙ lesser-is g 32767 (omega (arith, near)) in
     let true_gap = p.gap near z within held in
     let mine : gap z d v ≡ unsigned_abs (w -ℤ pos d) = ap (λ (y : ℤ). gap z d y) sign ∙ own b d z in
-    let is : w ≡ pos a = size-true a d g w (size-most t lt) small near (holds-size t z lt held) (sym mine ∙ true_gap) in
-    let room_a : room ≤ a = omega (arith, er, right, lesser-left a d) in
-    let room_d : room ≤ d = omega (arith, er, right, lesser-right a d) in
+    let is : w ≡ pos a = size-true a d g w (size-most t lt) is_cut.small near (holds-size t z lt held) (sym mine ∙ true_gap) in
+    let room_a : room ≤ a = omega (arith, er, right, lesser-left a cut) in
+    let room_d : room ≤ d = omega (arith, er, right, lesser-right a cut, under) in
     let margin : IsMargin (full Two) z d v (4 * d * room) =
     λ y has. elim (one-or-other b y (among Two y has)) [
       | inl e ↦ inl (e ∙ sym sign)
@@ -186,30 +202,30 @@ pair t d x g h room lt small p sign eh er some z within held =
     }
 
 -- each is a coordinate of its lane
-pub single-is : (t d x g h room : ℕ) → d < 2 ^ 14 → Proposes 1 farthest t d x g → h ≡ lesser g 16383 → room ≡ lesser (over (2 ^ 14) g) d
-    → IsCoordinate One t d x h room
-single-is t d x g h room small p eh er = record {
-  small = omega (arith, eh, lesser-right g 16383);
-  within = omega (arith, er, lesser-right (over (2 ^ 14) g) d);
-  certain = single t d x g h room small p eh er;
+pub single-is : (t d cut x g h room : ℕ) → IsCut d cut → Proposes 1 farthest t d x g → h ≡ lesser g 32767 → room ≡ lesser (over (2 ^ 15) g) cut
+    → IsCoordinate One t d cut x h room
+single-is t d cut x g h room small p eh er = record {
+  small = omega (arith, eh, lesser-right g 32767);
+  within = omega (arith, er, lesser-right (over (2 ^ 15) g) cut);
+  certain = single t d cut x g h room small p eh er;
 }
 
-pub pair-is : (t d x g h room : ℕ) → t < 2 ^ 32 → d < 2 ^ 14 → Proposes 2 farthest t d x g → x ≡ turned t 1 → h ≡ lesser g 16383
-    → room ≡ lesser (over (2 ^ 14) g) (lesser (size t) d) → IsCoordinate Two t d x h room
-pair-is t d x g h room lt small p sign eh er = record {
-  small = omega (arith, eh, lesser-right g 16383);
-  within = omega (arith, er, lesser-right (over (2 ^ 14) g) (lesser (size t) d), lesser-right (size t) d);
-  certain = pair t d x g h room lt small p (ap (cast_signed w32) sign ∙ by (is_negative t)) eh er;
+pub pair-is : (t d cut x g h room : ℕ) → t < 2 ^ 32 → IsCut d cut → Proposes 2 farthest t d x g → x ≡ turned t 1 → h ≡ lesser g 32767
+    → room ≡ lesser (over (2 ^ 15) g) (lesser (size t) cut) → IsCoordinate Two t d cut x h room
+pair-is t d cut x g h room lt small p sign eh er = record {
+  small = omega (arith, eh, lesser-right g 32767);
+  within = omega (arith, er, lesser-right (over (2 ^ 15) g) (lesser (size t) cut), lesser-right (size t) cut);
+  certain = pair t d cut x g h room lt small p (ap (cast_signed w32) sign ∙ by (is_negative t)) eh er;
 }
   where
     by : (b : Bool) → cast_signed w32 (if b then minus 0 1 else 1) ≡ signed b (pos 1)
     by true = refl
     by false = refl
 
-pub several-is : (l : Levels) (t d x g h room : ℕ) → d < 2 ^ 14 → Proposes (size_of l) farthest t d x g → h ≡ lesser g d → room ≡ over d g
-    → IsCoordinate l t d x h room
-several-is l t d x g h room small p eh er = record {
-  small = omega (arith, eh, lesser-right g d, small);
-  within = omega (arith, er, over-is d g (omega (arith, small)) p.left);
-  certain = several l t d x g h room small p eh er;
+pub several-is : (l : Levels) (t d cut x g h room : ℕ) → IsCut d cut → Proposes (size_of l) farthest t d x g → h ≡ lesser g cut → room ≡ over cut g
+    → IsCoordinate l t d cut x h room
+several-is l t d cut x g h room is_cut p eh er = record {
+  small = omega (arith, eh, lesser-right g cut, is_cut.few);
+  within = omega (arith, er, over-is cut g (omega (arith, is_cut.few)) p.left);
+  certain = several l t d cut x g h room is_cut p eh er;
 }

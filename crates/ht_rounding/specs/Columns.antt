@@ -1,5 +1,5 @@
 -- The channels of a frame's subcarriers in columns, one word for each subcarrier.
-use Rattle.std.specs.Prelude.{◌≡◌, ℕ, ◌+◌, ◌-◌, ◌^◌, ◌<◌, ◌≤◌, List, length, slice_index, slice_index_or}
+use Rattle.std.specs.Prelude.{◌≡◌, ℕ, ◌+◌, ◌-◌, ◌<◌, ◌≤◌, List, length, slice_index, slice_index_or}
 use Rattle.ht_metric.specs.Arrays.{legs}
 use Rattle.ht_metric.specs.Jobs.{JobView}
 use Rattle.ht_metric.specs.Rows.{Row, no_row}
@@ -73,8 +73,7 @@ pub record Reaches (n : ℕ) (columns : Columns) : Type 0 where
 
 -- lane k has row `number` of these without its sample, where they have it
 pub record HasLeg (lanes : RowLanes) (k number : ℕ) (rows : List Row) : Type 0 where
-  pub diagonal : number ≤ length rows → (slice_index_or rows (number - 1) no_row).diagonal < 2 ^ 14
-      → slice_index lanes.diagonal k ≡ (slice_index_or rows (number - 1) no_row).diagonal
+  pub diagonal : number ≤ length rows → slice_index lanes.diagonal k ≡ (slice_index_or rows (number - 1) no_row).diagonal
   pub next_re : IsPartOf (EntryRe 0) number rows (slice_index lanes.next.re k)
   pub next_im : IsPartOf (EntryIm 0) number rows (slice_index lanes.next.im k)
   pub second_re : IsPartOf (EntryRe 1) number rows (slice_index lanes.second.re k)

@@ -48,7 +48,7 @@ pub record IsInLane (i q : Levels) (channel : Channel) (samples : SampleLanes) (
   pub rows : AreRowsIn (channel.first ∷ channel.second ∷ channel.third ∷ channel.fourth ∷ [])
       (samples.first ∷ samples.second ∷ samples.third ∷ samples.fourth ∷ []) k job.system
 
--- the diagonals of all rows are below 2^14
+-- the diagonals of all rows are below 2^16
 pub record IsSmall (channel : Channel) : Type 0 where
   pub first : AreSmall channel.first.diagonal
   pub second : AreSmall channel.second.diagonal

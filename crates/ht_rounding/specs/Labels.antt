@@ -1,5 +1,5 @@
 -- Labels by lanes.
-use Rattle.std.specs.Prelude.{◌≡◌, ℕ, ◌+◌, ◌%◌, ◌<◌, List, [], ◌∷◌, Option, Some, IfSome, length, map, slice_get, slice_index, take, unwrap_or}
+use Rattle.std.specs.Prelude.{◌≡◌, ℕ, ◌+◌, ◌%◌, ◌<◌, List, [], ◌∷◌, Option, Some, IfSome, map, slice_get, slice_index, take, unwrap_or}
 use Rattle.std.specs.Int.{cast_signed, w32}
 use Rattle.ht_map.specs.Gray.{Axis, bits_at, joined, no_bits, one_bit, two_bits, three_bits}
 use Rattle.ht_pam.specs.declared.point.Point.{Point}

@@ -24,9 +24,14 @@ pub record IsShort (n : ℕ) (z : ℤ) : Type 0 where
   pub is : cast_signed w32 n ≡ z
   pub few : unsigned_abs z ≤ 2 ^ 15
 
+-- the word is a number of 16 bits without a sign
+pub record IsDiagonal (n d : ℕ) : Type 0 where
+  pub is : n ≡ d
+  pub few : n < 2 ^ 16
+
 -- the word is this part of a row that has so many streams behind its own
 abbrev pub IsPart : Part → ℕ → Row → ℕ → Type 0
-IsPart Diagonal behind row n = n ≡ row.diagonal
+IsPart Diagonal behind row n = IsDiagonal n row.diagonal
 IsPart SampleRe behind row n = IsWord n row.sample.re
 IsPart SampleIm behind row n = IsWord n row.sample.im
 IsPart (EntryRe m) behind row n = m < behind → IsShort n (slice_index_or row.right m no_tap).re
@@ -44,20 +49,15 @@ no_job = record { number = 0; place = record { frame = 0; symbol = 0; carrier = 
 abbrev pub HaveParts : Part → ℕ → List JobView → List ℕ → Type 0
 HaveParts part number jobs lanes = (k : ℕ) → k < 8 → IsPartOf part number (slice_index_or jobs k no_job).system (slice_index lanes k)
 
--- lane k has row `number` of these, counted from 1, where they have it and its diagonal is below 2^14
+-- lane k has row `number` of these, counted from 1, where they have it
 abbrev pub IsRowOf : RowLanes → Parts → ℕ → ℕ → List Row → Type 0
-IsRowOf lanes y k number rows = number ≤ length rows → (slice_index_or rows (number - 1) no_row).diagonal < 2 ^ 14
+IsRowOf lanes y k number rows = number ≤ length rows
     → IsRowIn lanes y k (length rows - number) (slice_index_or rows (number - 1) no_row)
 
--- all diagonals are below 2^14
-abbrev pub HaveSmall : List Row → Type 0
-HaveSmall rows = (j : ℕ) → j < length rows → (slice_index_or rows j no_row).diagonal < 2 ^ 14
-
--- each lane has the diagonal of its job's row where that is below 2^14: it is cut
+-- each lane has the diagonal of its job's row
 abbrev pub HaveDiagonals : ℕ → List JobView → List ℕ → Type 0
 HaveDiagonals number jobs lanes = (k : ℕ) → k < 8 → (let rows = (slice_index_or jobs k no_job).system in
-    number ≤ length rows → (slice_index_or rows (number - 1) no_row).diagonal < 2 ^ 14
-    → slice_index lanes k ≡ (slice_index_or rows (number - 1) no_row).diagonal)
+    number ≤ length rows → slice_index lanes k ≡ (slice_index_or rows (number - 1) no_row).diagonal)
 
 -- what was found where there is nothing
 abbrev pub no_found : Found
@@ -67,16 +67,15 @@ no_found = record { vector = []; distance = 0 }
 abbrev pub HaveStreams : ℕ → List JobView → Type 0
 HaveStreams streams jobs = (k : ℕ) → k < 8 → length (slice_index_or jobs k no_job).system ≡ streams
 
--- lane k has these rows, at most four, where their diagonals are below 2^14
+-- lane k has these rows, at most four
 abbrev pub IsLoaded : Channel → SampleLanes → ℕ → List Row → Type 0
-IsLoaded channel samples k rows = length rows ≤ 4 → HaveSmall rows → AreRowsIn (channel.first ∷ channel.second ∷ channel.third ∷ channel.fourth ∷ [])
+IsLoaded channel samples k rows = length rows ≤ 4 → AreRowsIn (channel.first ∷ channel.second ∷ channel.third ∷ channel.fourth ∷ [])
     (samples.first ∷ samples.second ∷ samples.third ∷ samples.fourth ∷ []) k rows
 
--- a job that a lane can answer: all these levels are allowed on each of so many streams, and its diagonals are below 2^14
+-- a job that a lane can answer: all these levels are allowed on each of so many streams
 pub record IsPlain (i q : Levels) (streams : ℕ) (job : JobView) : Type 0 where
   pub valid : IsJob job
   pub grid : job.grid ≡ replicate streams (axes_of i q)
-  pub small : HaveSmall job.system
 
 -- where something is to spare in lane k, and a lane can answer job k, it has
 abbrev pub Answers : Levels → Levels → ℕ → List JobView → Four → Type 0

@@ -1,5 +1,5 @@
 -- What a lane knows behind each row.
-use Rattle.std.specs.Prelude.{◌≡◌, ℕ, unsigned_abs, ◌+◌, ◌*◌, ◌^◌, ◌<◌, ◌≤◌}
+use Rattle.std.specs.Prelude.{◌≡◌, ℕ, unsigned_abs, ◌+◌, ◌*◌, ◌^◌, ◌<◌, ◌≤◌, List, slice_index}
 use Rattle.ht_pam.specs.declared.point.Point.{Point}
 use Rattle.ht_metric.specs.declared.complex.Complex.{Complex}
 use Rattle.ht_metric.specs.declared.tap.Tap.{Tap}
@@ -35,6 +35,10 @@ pub record IsRowSure (i q : Levels) (d spare rho x_i x_q after all : ℕ) (z : C
 abbrev pub CertifiesRow : Levels → Levels → ℕ → ℕ → ℕ → ℕ → ℕ → ℕ → ℕ → ℕ → ℕ → Type 0
 CertifiesRow i q re im d spare rho x_i x_q after sum =
     0 < after → (z : Complex) → AreWithin farthest z → HoldBoth re im z → IsRowSure i q d spare rho x_i x_q after sum z
+
+-- in each lane the distance and what is to spare are together below 2^32
+abbrev pub AreFitting : List ℕ → List ℕ → Type 0
+AreFitting spare rho = (k : ℕ) → k < 8 → slice_index spare k + slice_index rho k < 2 ^ 32
 
 -- two lanes have the parts of an entry, which has 16 bits
 pub record IsEntry (a b : ℕ) (r : Tap) : Type 0 where

@@ -5,7 +5,7 @@ ghost use Rattle.ht_metric.specs.Jobs.{IsJob, near};
 ghost use Rattle.ht_metric.specs.Distance.{IsInRange};
 ghost use Rattle.ht_rounding.specs.Proposals.{full};
 ghost use Rattle.ht_rounding.specs.InLanes.{AreFew, Finds, axes_of, point_at, points_at};
-ghost use Rattle.ht_rounding.specs.Loading.{Answers, AreBelow, AreNear, HaveSmall, HaveStreams, no_found, no_job};
+ghost use Rattle.ht_rounding.specs.Loading.{Answers, AreBelow, AreNear, HaveStreams, no_found, no_job};
 
 use crate::levels::Levels;
 use crate::loading::load;
@@ -48,21 +48,6 @@ fn full_grid(i: Levels, q: Levels, streams: u8) -> Grid
         return one.and(i, q).and(i, q);
     }
     one.and(i, q).and(i, q).and(i, q)
-}
-
-// Whether the diagonals of a job of so many streams are below 2^14.
-#[inline(always)]
-pub(crate) fn has_small_diagonals(job: &Job, streams: u8) -> bool
-    requires { streams ≡ length job.now.system }
-    ensures { result ≡ true → HaveSmall job.now.system }
-{
-    let system = job.system();
-    for row in 0..streams {
-        if system.diagonal(row + 1) >= 1 << 14 {
-            return false;
-        }
-    }
-    true
 }
 
 // Whether each of eight jobs has so many streams.
@@ -238,13 +223,13 @@ fn lane_or_search<L: Ledger>(
     requires lane { k < 8 }
     requires some { 1 ≤ streams }
     requires most { streams ≤ 4 }
-    requires certain { IsJob job.now → job.now.grid ≡ grid.now → HaveSmall job.now.system → 0 < slice_index found.now.first.spare k
+    requires certain { IsJob job.now → job.now.grid ≡ grid.now → 0 < slice_index found.now.first.spare k
         → Finds (points_at streams found.now k) (slice_index found.now.first.rho k) job.now }
     ensures found { result ≡ near job.now }
     ensures below { result.distance < 2 ^ 66 }
 {
     let is_sure = found.first.spare.to_array()[k] > 0;
-    if is_sure && job.grid().same(grid) && has_small_diagonals(job, job.system().streams()) {
+    if is_sure && job.grid().same(grid) {
         return found_at(found, streams, k);
     }
     find(job, steps)
@@ -266,8 +251,7 @@ fn find_each<L: Ledger>(jobs: &[Job], founds: &mut [Found], steps: &mut Steps<L>
 /// Finds the first nearest vectors of eight jobs, each with its squared distance, which is below 2^66.
 ///
 /// Where the jobs have the same number of streams, and all points of the first job's constellations are allowed on each stream,
-/// those that have the same grid and diagonals below 2^14 are rounded in lanes. Jobs that a lane isn't sure of, and all others,
-/// go to the search.
+/// those that have the same grid are rounded in lanes. Jobs that a lane isn't sure of, and all others, go to the search.
 pub fn find_eight<L: Ledger>(jobs: &[Job], founds: &mut [Found], steps: &mut Steps<L>)
     requires jobs { length jobs.now ≡ 8 }
     requires founds { length founds.old ≡ 8 }

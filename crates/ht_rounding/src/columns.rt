@@ -168,7 +168,7 @@ fn entry_lanes(entries: &EntryColumns, streams: u8, least: u8, at: usize) -> Par
     }
 }
 
-// Row `row` of eight subcarriers; diagonals are cut at 2^14 - 1.
+// Row `row` of eight subcarriers.
 #[inline(always)]
 fn row_lanes(rows: &RowColumns, streams: u8, row: u8, at: usize) -> RowLanes
     requires row { row ≤ 4 }
@@ -179,7 +179,7 @@ fn row_lanes(rows: &RowColumns, streams: u8, row: u8, at: usize) -> RowLanes
 {
     let diagonal = part_lanes(&rows.diagonal, streams, row, at);
     RowLanes {
-        diagonal: lesser(diagonal, u32x8::splat(16383)),
+        diagonal: lesser(diagonal, u32x8::splat(65535)),
         next: entry_lanes(&rows.next, streams, row + 1, at),
         second: entry_lanes(&rows.second, streams, row + 2, at),
         third: entry_lanes(&rows.third, streams, row + 3, at),

@@ -6,7 +6,7 @@ ghost use Rattle.ht_rounding.specs.InLanes.{IsSmall};
 ghost use Rattle.ht_rounding.specs.Labels.{HasJob, IsLabelled, IsUnsure, i_levels, label_by, q_levels};
 ghost use Rattle.ht_rounding.specs.Loading.{HaveStreams, IsPlain, no_job};
 
-use crate::block::{has_small_diagonals, have_streams, ladder_of};
+use crate::block::{have_streams, ladder_of};
 use crate::labels::labels;
 use crate::levels::Levels;
 use crate::loading::load;
@@ -24,7 +24,7 @@ pub struct Eight {
     pub channel: Channel,
     /// What was received.
     pub samples: SampleLanes,
-    /// Positive in the lanes whose jobs have all points of their constellations, and diagonals below 2^14.
+    /// Positive in the lanes whose jobs have all points of their constellations.
     pub plain: u32x8,
 }
 
@@ -205,11 +205,7 @@ pub(crate) fn plainness(i: Levels, q: Levels, streams: u8, job: &Job) -> u32
     ensures { 0 < result → IsPlain i q streams job.now }
 {
     let grid = job.grid();
-    if has_all(grid, streams, ladder_of(i), ladder_of(q)) && has_small_diagonals(job, streams) {
-        1
-    } else {
-        0
-    }
+    u32::from(has_all(grid, streams, ladder_of(i), ladder_of(q)))
 }
 
 // In lane k, 1 where a lane can answer job k, whose constellations have all these levels, and 0 elsewhere.
@@ -281,7 +277,7 @@ pub(crate) fn unsure(streams: u8) -> Labelled
 
 /// The labels of the first nearest vectors of eight jobs of any kind, and their squared distances: lane k has those of job k.
 /// None is sure where the jobs don't all have the same number of streams; else the sure ones are among those whose jobs have all
-/// points of this modulation on each stream, and diagonals below 2^14.
+/// points of this modulation on each stream.
 pub fn label_eight(modulation: Modulation, jobs: &[Job]) -> Labelled
     requires jobs { length jobs.now ≡ 8 }
     ensures some { 1 ≤ result.streams }

@@ -89,9 +89,9 @@ fn lanes_of(jobs: &[Job], streams: u8, row: u8, part: Part) -> u32x8
     u32x8::from_array(lanes)
 }
 
-// The diagonals of row `row` of eight jobs, each cut at 2^14 - 1.
+// The diagonals of row `row` of eight jobs: the words are short ones.
 #[inline(always)]
-fn small_diagonals(jobs: &[Job], streams: u8, row: u8) -> u32x8
+fn diagonals_of(jobs: &[Job], streams: u8, row: u8) -> u32x8
     requires jobs { length jobs.now ≡ 8 }
     requires streams { HaveStreams streams jobs.now }
     requires row { 1 ≤ row }
@@ -100,7 +100,7 @@ fn small_diagonals(jobs: &[Job], streams: u8, row: u8) -> u32x8
 {
     lesser(
         lanes_of(jobs, streams, row, Part::Diagonal),
-        u32x8::splat(16383),
+        u32x8::splat(65535),
     )
 }
 
@@ -150,7 +150,7 @@ fn row_of(jobs: &[Job], streams: u8, row: u8) -> RowLanes
     ensures third_im { HaveParts (EntryIm 2) row jobs.now result.third.im }
 {
     RowLanes {
-        diagonal: small_diagonals(jobs, streams, row),
+        diagonal: diagonals_of(jobs, streams, row),
         next: entries_of(jobs, streams, row, 0),
         second: entries_of(jobs, streams, row, 1),
         third: entries_of(jobs, streams, row, 2),

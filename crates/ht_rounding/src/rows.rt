@@ -7,9 +7,9 @@ ghost use Rattle.ht_metric.specs.Distance.{IsInRange, minus as complex_minus, ti
 ghost use Rattle.ht_metric.specs.declared.complex.Complex.{Complex};
 ghost use Rattle.ht_metric.specs.declared.tap.Tap.{Tap};
 ghost use Rattle.ht_rounding.specs.Proposals.{AreSmall};
-ghost use Rattle.ht_rounding.specs.RowSteps.{HoldBoth, IsEntry, CertifiesRow, point_of};
+ghost use Rattle.ht_rounding.specs.RowSteps.{AreFitting, CertifiesRow, HoldBoth, IsEntry, point_of};
 
-use crate::levels::{Levels, nearest_level};
+use crate::levels::{Levels, cut, nearest_level};
 use crate::words::{lesser, minus, over, plus, product, times};
 use std::simd::prelude::*;
 
@@ -38,15 +38,15 @@ pub struct Reached {
 // What a row costs: the sum of the squares of both gaps.
 #[inline(always)]
 fn cost(i: u32x8, q: u32x8) -> u32x8
-    requires i { (k : ℕ) → k < 8 → slice_index i k < 2 ^ 14 }
-    requires q { (k : ℕ) → k < 8 → slice_index q k < 2 ^ 14 }
+    requires i { (k : ℕ) → k < 8 → slice_index i k < 2 ^ 15 }
+    requires q { (k : ℕ) → k < 8 → slice_index q k < 2 ^ 15 }
     ensures { (k : ℕ) → k < 8 → slice_index result k ≡ slice_index i k * slice_index i k + slice_index q k * slice_index q k }
 {
     plus(product(i, i), product(q, q))
 }
 
 // One row of all lanes: the nearest levels, and what is left to spare when the row's cost is taken away, at most four times
-// the diagonal and the lesser room.
+// the diagonal, cut, and the lesser room.
 #[inline(always)]
 pub(crate) fn next_row(
     i: Levels,
@@ -57,17 +57,18 @@ pub(crate) fn next_row(
     d: u32x8,
 ) -> Reached
     requires small { AreSmall d }
-    requires few { (k : ℕ) → k < 8 → slice_index rho k ≤ 2 ^ 31 }
-    ensures bound { (k : ℕ) → k < 8 → slice_index result.rho k ≤ slice_index rho k + 2 * (16383 * 16383) }
+    requires fitting { AreFitting spare rho }
+    ensures fitting { AreFitting result.spare result.rho }
     ensures less { (k : ℕ) → k < 8 → slice_index result.spare k ≤ slice_index spare k }
     ensures certain { (k : ℕ) → k < 8
         → CertifiesRow i q (slice_index target.re k) (slice_index target.im k) (slice_index d k) (slice_index spare k) (slice_index rho k)
         (slice_index result.i k) (slice_index result.q k) (slice_index result.spare k) (slice_index result.rho k) }
 {
-    let at_i = nearest_level(i, target.re, d);
-    let at_q = nearest_level(q, target.im, d);
+    let cut = cut(d);
+    let at_i = nearest_level(i, target.re, d, cut);
+    let at_q = nearest_level(q, target.im, d, cut);
     let cost = cost(at_i.gap, at_q.gap);
-    let margin = product(times(d, 4), lesser(at_i.room, at_q.room));
+    let margin = product(times(cut, 4), lesser(at_i.room, at_q.room));
     Reached {
         i: at_i.level,
         q: at_q.level,

@@ -2,7 +2,7 @@
 ghost use Rattle.std.specs.Prelude.{◌≡◌, ◌-◌, ◌*◌, ◌^◌, ◌<◌, ◌≤◌, ℕ, [], ◌∷◌, slice_index};
 ghost use Rattle.ht_metric.specs.Jobs.{JobView};
 ghost use Rattle.ht_rounding.specs.Proposals.{AreSmall};
-ghost use Rattle.ht_rounding.specs.RowSteps.{CertifiesRow};
+ghost use Rattle.ht_rounding.specs.RowSteps.{AreFitting, CertifiesRow};
 ghost use Rattle.ht_rounding.specs.InLanes.{IsInLane, IsSmall, Finds, point_at};
 
 use crate::levels::Levels;
@@ -52,7 +52,7 @@ pub struct SampleLanes {
 #[inline(always)]
 fn last_row(i: Levels, q: Levels, target: Parts, d: u32x8) -> Reached
     requires { AreSmall d }
-    ensures bound { (k : ℕ) → k < 8 → slice_index result.rho k ≤ 2 * (16383 * 16383) }
+    ensures fitting { AreFitting result.spare result.rho }
     ensures certain { (k : ℕ) → k < 8
         → CertifiesRow i q (slice_index target.re k) (slice_index target.im k) (slice_index d k) (2 ^ 32 - 1) 0
         (slice_index result.i k) (slice_index result.q k) (slice_index result.spare k) (slice_index result.rho k) }

@@ -4,11 +4,11 @@ use Rattle.ht_rounding.proofs.Answered.{element, one-below, one-more, plain-job}
 use Rattle.ht_rounding.proofs.block.find_eight.Goals as goal
 
 pub lane_or_search-requires-clause-certain : goal.lane_or_search-requires-clause-certain
-lane_or_search-requires-clause-certain g c valid same small some =
+lane_or_search-requires-clause-certain g c valid same some =
     let job = c.index-jobs-k.result in
     let k = c.loop-k.k in
     let is = c.index-jobs-k.is ∙ element c.args.jobs.now k job no_job (omega (arith, c.requires.jobs, c.loop-k-test.true)) in
-    plain-job c.args.jobs.now k job _ _ _ c.proposed-found.result is (same ∙ c.full_grid-grid.ensures) valid small
+    plain-job c.args.jobs.now k job _ _ _ c.proposed-found.result is (same ∙ c.full_grid-grid.ensures) valid
     (c.proposed-found.ensures k c.loop-k-test.true some)
 
 pub loop-k-preserved : goal.loop-k-preserved

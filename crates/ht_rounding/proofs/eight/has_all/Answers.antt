@@ -1,4 +1,4 @@
-use Rattle.std.proofs.Common.{arith, ◌∙◌}
+use Rattle.std.proofs.Common.{arith}
 use Rattle.ht_pam.specs.Grids.{no_axes}
 use Rattle.ht_rounding.proofs.Answered.{all_same}
 use Rattle.ht_rounding.proofs.eight.has_all.Goals as goal

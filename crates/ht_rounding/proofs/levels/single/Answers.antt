@@ -7,8 +7,8 @@ use Rattle.ht_rounding.proofs.levels.single.Goals as goal
 
 pub returns : goal.returns
 returns c k lt =
-    single-is (slice_index c.args.target k) (slice_index c.args.d k) _ (slice_index c.at_one.result.gap k) _ _ (c.requires k lt)
+    single-is (slice_index c.args.target k) (slice_index c.args.d k) (slice_index c.args.cut k) _ (slice_index c.at_one.result.gap k) _ _ (c.requires k lt)
     (c.at_one.ensures.proposed k lt farthest (omega arith))
-    (c.lesser.ensures.lane k lt ∙ ap (λ (n : ℕ). lesser (slice_index c.at_one.result.gap k) n) (get_or-replicate {A = ℕ} 8 k 16383 0 lt))
-    (c.lesser-2.ensures.lane k lt ∙ ap (λ (n : ℕ). lesser n (slice_index c.args.d k))
-    (c.over.ensures.lane k lt ∙ ap (λ (n : ℕ). over n (slice_index c.at_one.result.gap k)) (get_or-replicate {A = ℕ} 8 k 16384 0 lt)))
+    (c.lesser.ensures.lane k lt ∙ ap (λ (n : ℕ). lesser (slice_index c.at_one.result.gap k) n) (get_or-replicate {A = ℕ} 8 k 32767 0 lt))
+    (c.lesser-2.ensures.lane k lt ∙ ap (λ (n : ℕ). lesser n (slice_index c.args.cut k))
+    (c.over.ensures.lane k lt ∙ ap (λ (n : ℕ). over n (slice_index c.at_one.result.gap k)) (get_or-replicate {A = ℕ} 8 k 32768 0 lt)))

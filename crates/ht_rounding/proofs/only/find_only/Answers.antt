@@ -1,7 +1,6 @@
 use Rattle.std.proofs.Common.{ℕ, List, ap, length, subst, sym, ◌∙◌}
-use Rattle.std.specs.List.{All}
 use Rattle.ht_pam.specs.declared.axes.Axes.{Axes}
-use Rattle.ht_metric.specs.Distance.{IsInRange, distance_of}
+use Rattle.ht_metric.specs.Distance.{distance_of}
 use Rattle.ht_metric.specs.Rows.{Row}
 use Rattle.ht_metric.specs.declared.found.Found.{Found}
 use Rattle.ht_rounding.specs.Only.{AreOnly}

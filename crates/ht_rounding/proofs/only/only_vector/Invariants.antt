@@ -1,4 +1,4 @@
-use Rattle.std.proofs.Common.{◌≡◌, ℕ, length, take}
+use Rattle.std.proofs.Common.{◌≡◌, length, take}
 use Rattle.ht_rounding.specs.Only.{AreOnly}
 use Rattle.ht_rounding.proofs.only.only_vector.Given as goal
 

@@ -1,8 +1,3 @@
-use Rattle.std.proofs.Common.{◌≡◌, ℕ, List, ◌++◌, [], ◌∷◌, sym, subst}
-use Rattle.ht_metric.specs.Jobs.{JobView}
-use Rattle.ht_rounding.specs.declared.levels.Levels.{Levels}
-use Rattle.ht_rounding.specs.Columns.{ArePlain}
-use Rattle.ht_rounding.specs.Labels.{i_levels}
 use Rattle.ht_rounding.proofs.InColumns.{plain-more}
 use Rattle.ht_rounding.proofs.columns.Columns.push.Goals as goal
 
