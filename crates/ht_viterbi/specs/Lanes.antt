@@ -3,8 +3,8 @@ use Rattle.std.specs.Prelude.{◌≡◌, ℕ, ℤ, pos, unsigned_abs, zero, suc,
 use Rattle.std.specs.Prelude.{Some, None}
 use Rattle.std.specs.Prelude.{drop, length, map, slice_index, slice_index_or}
 use Rattle.ht_rate.specs.declared.kinds.Pattern.{Pattern}
-use Rattle.ht_viterbi.specs.Inputs.{place_cost}
-use Rattle.ht_viterbi.specs.Trellis.{StepCosts, branch_cost, costs_of, pair_at, way}
+use Rattle.ht_viterbi.specs.Inputs.{place_cost, weight_cost}
+use Rattle.ht_viterbi.specs.Trellis.{StepCosts, branch_cost, costs_of, least_from, pair_at, steps_from, way}
 
 -- a vector of 64 lanes, each as the function says
 pub record HasLanes (lanes : List ℕ) (value : ℕ → ℕ) : Type 0 where
@@ -76,6 +76,16 @@ AreWithin most weights = (k : ℕ) → unsigned_abs (slice_index_or weights k (p
 abbrev pub pair_costs_of : StepCosts → List ℕ
 pair_costs_of step =
     (step.0.zero + step.1.zero) ∷ (step.0.zero + step.1.one) ∷ (step.0.one + step.1.zero) ∷ (step.0.one + step.1.one) ∷ []
+
+-- what the steps from one on cost by weights, of a word that has `steps` of them
+abbrev pub weight_steps : Pattern → List ℤ → ℕ → ℕ → List StepCosts
+weight_steps pattern weights steps at = steps_from pattern (map (costs_of weight_cost) weights) at (steps - at)
+
+-- the least costs of these steps from each state, all lowered by the same
+pub record AreLowered (pairs : List StepCosts) (lanes : List ℕ) (fallen count : ℕ) : Type 0 where
+  pub costs : (k : ℕ) → k < 64 → slice_index lanes k + fallen ≡ least_from pairs k
+  pub low : slice_index lanes 0 < 2 ^ 30
+  pub bound : slice_index lanes 0 + fallen ≤ 2 ^ 17 * count
 
 -- no state's two ways lie 128 or more apart
 abbrev pub IsClose : (ℕ → ℕ) → StepCosts → Type 0

@@ -1,11 +1,11 @@
 //! The decoder of weights: all 64 states at once, with whole costs in lanes of 32 bits. Before these come to the
 //! lanes' end all are lowered by the same, on which no choice depends.
 ghost use Rattle.std.specs.Prelude.{◌≡◌, ◌+◌, ◌-◌, ◌*◌, ◌^◌, ◌<◌, ◌≤◌, ◌↔◌, ℕ, true, false, IfOk};
-ghost use Rattle.std.specs.Prelude.{length, replicate, slice_index};
+ghost use Rattle.std.specs.Prelude.{length, drop, replicate, slice_index};
 ghost use Rattle.std.specs.Int.{bit_at};
 ghost use Rattle.ht_conv.specs.Puncturing.{sent_count};
 ghost use Rattle.ht_viterbi.specs.Inputs.{IsFound, tail, weight_cost};
-ghost use Rattle.ht_viterbi.specs.Lanes.{AreWithin, HasLanes, HaveRoom, IsLight, heaviest};
+ghost use Rattle.ht_viterbi.specs.Lanes.{AreLowered, AreWithin, HasLanes, HaveRoom, IsLight, heaviest, weight_steps};
 ghost use Rattle.ht_viterbi.specs.Trellis.{way, chosen, lesser, least_from, AreChoices, word_steps};
 
 use crate::backwards::{Backwards, Word};
@@ -90,6 +90,48 @@ fn lowered(costs: u32x64) -> (u32x64, u64)
     }
 }
 
+// Fills in the choices of some steps, from the last to the first, and gives the costs before them from those behind them, with how
+// much these were lowered. `start` is where the places of the step behind them begin, and goes back to where those of the first begin.
+#[inline(always)]
+fn stretch(
+    pattern: Pattern,
+    weights: &[i32],
+    choices: &mut [u64],
+    behind: (u32x64, u64),
+    start: &mut usize,
+    from: usize,
+    to: usize,
+    free: bool,
+) -> (u32x64, u64)
+    requires light { AreWithin heaviest weights.now }
+    requires count { length weights.now ≡ sent_count pattern (length choices.old) }
+    requires few { length choices.old ≤ 2 ^ 20 }
+    requires order { from ≤ to }
+    requires within { to ≤ length choices.old }
+    requires tail { free ≡ false → length choices.old ≤ from + 6 }
+    requires before { free ≡ true → from < to → to + 6 ≤ length choices.old }
+    requires start { start.old ≡ sent_count pattern to }
+    requires behind { AreLowered (weight_steps pattern weights.now (length choices.old) to) behind.0 behind.1 (length choices.old - to) }
+    requires chosen { AreChoices (weight_steps pattern weights.now (length choices.old) to) (drop to choices.old) }
+    ensures length { length choices.new ≡ length choices.old }
+    ensures start { start.new ≡ sent_count pattern from }
+    ensures costs { AreLowered (weight_steps pattern weights.now (length choices.old) from) result.0 result.1 (length choices.old - from) }
+    ensures choices { AreChoices (weight_steps pattern weights.now (length choices.old) from) (drop from choices.new) }
+{
+    let (mut costs, mut fallen) = behind;
+    let mut at = to;
+    while at > from {
+        at -= 1;
+        let branches = step_at(pattern, weights, at, start);
+        let (next, word) = step(costs, branches, free);
+        choices[at] = word;
+        let (low, fall) = lowered(next);
+        costs = low;
+        fallen += fall;
+    }
+    (costs, fallen)
+}
+
 // Fills in the choices of all steps, from the last to the first, and gives the least cost from state 0.
 fn backwards_in_lanes(pattern: Pattern, weights: &[i32], choices: &mut [u64]) -> u64
     requires light { AreWithin heaviest weights.now }
@@ -99,19 +141,13 @@ fn backwards_in_lanes(pattern: Pattern, weights: &[i32], choices: &mut [u64]) ->
     ensures least { result ≡ least_from (word_steps weight_cost pattern weights.now (length choices.old)) 0 }
 {
     let steps = choices.len();
-    let mut costs = no_costs();
-    let mut fallen = 0u64;
-    let mut at = steps;
+    let tail = steps.saturating_sub(TAIL);
     let mut start = weights.len();
-    while at > 0 {
-        at -= 1;
-        let branches = step_at(pattern, weights, at, &mut start);
-        let (next, word) = step(costs, branches, steps - at > TAIL);
-        choices[at] = word;
-        let (low, fall) = lowered(next);
-        costs = low;
-        fallen += fall;
-    }
+    let behind = (no_costs(), 0);
+    let ended = stretch(
+        pattern, weights, choices, behind, &mut start, tail, steps, false,
+    );
+    let (costs, fallen) = stretch(pattern, weights, choices, ended, &mut start, 0, tail, true);
     fallen + u64::from(first_lane(costs))
 }
 
