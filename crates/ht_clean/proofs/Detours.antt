@@ -268,7 +268,7 @@ cost-steps pattern received u zero t end e =
 cost-steps pattern received u (suc n) t end e =
     let here : total_cost place_cost (drop (sent_count pattern t) received) (sent_at pattern u t ++ flat_map (sent_at pattern u) (range_with_len (t + 1) n))
     ≡ wrong_at pattern received u t + total_cost place_cost (drop (sent_count pattern (suc t)) received)
-      (flat_map (sent_at pattern u) (range_with_len (t + 1) n)) =
+    (flat_map (sent_at pattern u) (range_with_len (t + 1) n)) =
     step-cost pattern received u t (flat_map (sent_at pattern u) (range_with_len (t + 1) n)) in
     let rest : wrong_before pattern received u (suc t)
     + total_cost place_cost (drop (sent_count pattern (suc t)) received) (flat_map (sent_at pattern u) (range_with_len (t + 1) n))

@@ -117,7 +117,7 @@ module _ {R H : Type 0} (in_flight : InFlightView R H) (reader : R) (head : H) (
 
   pub reads_none : (means : R → List ℕ → Meaning (Item H)) (at : R → ℕ) (source after : Device ℕ)
       → Finds (standing means at in_flight.reader None source) (standing means at reader (Some stop) after) (begun in_flight.head in_flight.frames)
-        (begun head frames) []
+      (begun head frames) []
       → ReadsMore means at in_flight stopped source after
   reads_none means at source after finds = record {
     came = [];

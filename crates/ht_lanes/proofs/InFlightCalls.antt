@@ -73,7 +73,7 @@ module _ {R H : Type 0} (means : R → List ℕ → Meaning (Item H)) (at : R �
     finished books =
         well failed failed (seen in_flight before x) (seen in_flight after y) none refl
         (tells_put means at in_flight in_flight.due source (lane_telling pieces x before) (lane_telling pieces y after) []
-            (append-nil (all_due in_flight.due)) books
+        (append-nil (all_due in_flight.due)) books
         (λ w. tt))
 
     -- not all of it could be put, or made

@@ -51,7 +51,7 @@ loop-k-preserved g c =
     ∙ (ap (λ (x : List ℕ). x ++ labels_in lanes l.k) l.invariant.put
     ∙ (append_assoc items (lane_labels lanes first so_far) (labels_in lanes l.k) ∙ ap (λ (x : List ℕ). items ++ x) (sym labels)))) in
     let run = run_more g.K.Kind.plan head (g.K.LabelKind.modulation_in head) (g.met.K.LabelKind.labels head) lanes jobs
-            (c.args.at + first) first so_far l.k (c.args.at + l.k) symbol m l.distance e c.place_at.result
+    (c.args.at + first) first so_far l.k (c.args.at + l.k) symbol m l.distance e c.place_at.result
     c.requires.streams c.requires.most lane index inside c.distance_in-distance.ensures.value (omega (arith, few)) (c.if-not-is_sure.ensures refl)
     (c.if-not-is_at.ensures.symbol refl) (c.if-not-is_at.ensures.carrier refl ∙ ap (λ (n : ℕ). Data n) carrier) c.place_at.ensures
     (c.requires.labels l.k under) l.invariant.is in

@@ -12,7 +12,7 @@ write_found-start-requires-clause-labels c =
     subst (λ (n : ℕ). HasLabels c.args.texts.now.modulation c.args.lanes.now n) (sym c.from.ensures)
     (lane_labels c.args.block.now.block c.args.texts.now.modulation c.args.lanes.now c.args.at c.args.k c.place_at-place.result c.requires.texts
     c.requires.lane c.requires.inside c.requires.some c.requires.most (c.if-is_sure.ensures refl)
-        (ap (λ (h : FrameHead). is_data (carrier_of h.rate c.place_at-place.result.carrier)) (sym c.head.ensures) ∙ c.if-carries_data.ensures refl)
+    (ap (λ (h : FrameHead). is_data (carrier_of h.rate c.place_at-place.result.carrier)) (sym c.head.ensures) ∙ c.if-carries_data.ensures refl)
     c.place_at-place.ensures c.requires.labels)
 
 pub returns-then-carries_data-clause-lines : goal.returns-then-carries_data-clause-lines
@@ -20,7 +20,7 @@ returns-then-carries_data-clause-lines c =
     let behind = drop c.args.end c.args.into.now in
     lane_put c.args.block.now.block c.args.texts.now.modulation c.args.lanes.now c.args.at c.args.k c.place_at-place.result c.requires.texts
     c.requires.lane c.requires.inside c.requires.some c.requires.most (c.if-is_sure.ensures refl)
-        (ap (λ (h : FrameHead). is_data (carrier_of h.rate c.place_at-place.result.carrier)) (sym c.head.ensures) ∙ c.if-carries_data.ensures refl)
+    (ap (λ (h : FrameHead). is_data (carrier_of h.rate c.place_at-place.result.carrier)) (sym c.head.ensures) ∙ c.if-carries_data.ensures refl)
     c.place_at-place.ensures c.requires.labels (drop c.write_found-start.result c.write_found-start.new.into) behind c.requires.lines
     (subst (λ (n : ℕ). drop c.write_found-start.result c.write_found-start.new.into
     ≡ line_at c.place_at-place.result (found_in c.args.texts.now.modulation c.args.lanes.now n) ++ behind) c.from.ensures
