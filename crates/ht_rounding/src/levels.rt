@@ -126,7 +126,8 @@ pub(crate) struct Coordinate {
 fn single(target: u32x8, d: u32x8, cut: u32x8) -> Coordinate
     requires { AreCut d cut }
     ensures { (k : ℕ) → k < 8
-        → IsCoordinate One (slice_index target k) (slice_index d k) (slice_index cut k) (slice_index result.level k) (slice_index result.gap k) (slice_index result.room k) }
+        → IsCoordinate One (slice_index target k) (slice_index d k) (slice_index cut k) (slice_index result.level k) (slice_index result.gap k)
+        (slice_index result.room k) }
 {
     let Proposal { level, gap } = at_one(target, d);
     Coordinate {
@@ -142,7 +143,8 @@ fn single(target: u32x8, d: u32x8, cut: u32x8) -> Coordinate
 fn pair(target: u32x8, d: u32x8, cut: u32x8) -> Coordinate
     requires { AreCut d cut }
     ensures { (k : ℕ) → k < 8
-        → IsCoordinate Two (slice_index target k) (slice_index d k) (slice_index cut k) (slice_index result.level k) (slice_index result.gap k) (slice_index result.room k) }
+        → IsCoordinate Two (slice_index target k) (slice_index d k) (slice_index cut k) (slice_index result.level k) (slice_index result.gap k)
+        (slice_index result.room k) }
 {
     let Proposal { level, gap } = at_two(target, d);
     Coordinate {
@@ -157,7 +159,8 @@ fn pair(target: u32x8, d: u32x8, cut: u32x8) -> Coordinate
 fn four(target: u32x8, d: u32x8, cut: u32x8) -> Coordinate
     requires { AreCut d cut }
     ensures { (k : ℕ) → k < 8
-        → IsCoordinate Four (slice_index target k) (slice_index d k) (slice_index cut k) (slice_index result.level k) (slice_index result.gap k) (slice_index result.room k) }
+        → IsCoordinate Four (slice_index target k) (slice_index d k) (slice_index cut k) (slice_index result.level k) (slice_index result.gap k)
+        (slice_index result.room k) }
 {
     let Proposal { level, gap } = at_four(target, d);
     Coordinate {
@@ -172,7 +175,8 @@ fn four(target: u32x8, d: u32x8, cut: u32x8) -> Coordinate
 fn eight(target: u32x8, d: u32x8, cut: u32x8) -> Coordinate
     requires { AreCut d cut }
     ensures { (k : ℕ) → k < 8
-        → IsCoordinate Eight (slice_index target k) (slice_index d k) (slice_index cut k) (slice_index result.level k) (slice_index result.gap k) (slice_index result.room k) }
+        → IsCoordinate Eight (slice_index target k) (slice_index d k) (slice_index cut k) (slice_index result.level k) (slice_index result.gap k)
+        (slice_index result.room k) }
 {
     let Proposal { level, gap } = at_eight(target, d);
     Coordinate {
@@ -187,7 +191,8 @@ fn eight(target: u32x8, d: u32x8, cut: u32x8) -> Coordinate
 pub(crate) fn nearest_level(levels: Levels, target: u32x8, d: u32x8, cut: u32x8) -> Coordinate
     requires { AreCut d cut }
     ensures { (k : ℕ) → k < 8
-        → IsCoordinate levels (slice_index target k) (slice_index d k) (slice_index cut k) (slice_index result.level k) (slice_index result.gap k) (slice_index result.room k) }
+        → IsCoordinate levels (slice_index target k) (slice_index d k) (slice_index cut k) (slice_index result.level k) (slice_index result.gap k)
+        (slice_index result.room k) }
 {
     match levels {
         Levels::One => single(target, d, cut),

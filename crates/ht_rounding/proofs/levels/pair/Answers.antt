@@ -9,7 +9,8 @@ use Rattle.ht_rounding.proofs.levels.pair.Goals as goal
 pub returns : goal.returns
 returns c k lt =
     let g = slice_index c.at_two.result.gap k in
-    pair-is (slice_index c.args.target k) (slice_index c.args.d k) (slice_index c.args.cut k) _ g _ _ (fits-lane c.args.target k (omega (arith, c.fits-target.0)) c.fits-target.1)
+    pair-is (slice_index c.args.target k) (slice_index c.args.d k) (slice_index c.args.cut k) _ g _ _
+    (fits-lane c.args.target k (omega (arith, c.fits-target.0)) c.fits-target.1)
     (c.requires k lt)
     (c.at_two.ensures.proposed k lt farthest (omega arith)) (c.at_two.ensures.sign k lt)
     (c.lesser.ensures.lane k lt ∙ ap (λ (n : ℕ). lesser g n) (get_or-replicate {A = ℕ} 8 k 32767 0 lt))

@@ -47,7 +47,8 @@ free-is c =
     let was = c.loop-at.invariant in
     let test = c.loop-at-test.true in
     let left = length-pairs c.args.pattern (map (costs_of weight_cost) c.args.weights.now) c.loop-at.at (length c.args.choices.now - c.loop-at.at) in
-    free-known c.args.free _ (λ e. omega (arith, left, c.requires.tail e, test)) (λ e. omega (arith, left, c.requires.before e (omega (arith, test, was.high)), was.high))
+    free-known c.args.free _ (λ e. omega (arith, left, c.requires.tail e, test))
+    (λ e. omega (arith, left, c.requires.before e (omega (arith, test, was.high)), was.high))
 
 -- the costs of the step, before they are lowered
 costs-are : (c : goal.After-next-1) → (k : ℕ) → k < 64 → slice_index c.step-word.result.0 k + c.loop-at.fallen
