@@ -26,7 +26,8 @@ crew-long deques at own members same first are =
     omega (arith, some, rest, ap length same, ap length are, length-map members workplace_of, length-map (drop 1 deques) (workplace deques))
 
 have_ended : (g : _) (c : After-take_apart g)
-    → HaveEnded g.row.W-Task.Denot g.row.W-Answer.Denot g.W.PoolWork.asked g.W.PoolWork.weight c.caller_end.inside.pass.table_id c.args.caller c.caller_end.inside.own
+    → HaveEnded g.row.W-Task.Denot g.row.W-Answer.Denot g.W.PoolWork.asked g.W.PoolWork.weight c.caller_end.inside.pass.table_id
+    c.args.caller c.caller_end.inside.own
     c.caller_end.inside.takers.items (view c.caller_end.inside.pass) c.args.members.items
 have_ended g c =
     let inv = c.caller_end.invariant in
