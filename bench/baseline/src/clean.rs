@@ -1,95 +1,27 @@
-//! Words in which no place is wrong, at once: the received bits stand in two planes, A and B, a bit a step; an input is guessed
-//! from them without feedback, and where its coded bits are the received ones, and it ends in six zeros, it is the word's: the
-//! distance is 0, and no other input has the same coded bits, as both generators tap the newest bit.
+//! Words with few wrong places, at once: the received bits stand in two planes, A and B, a bit a step; an input is guessed from
+//! them without feedback, and single wrong places are taken out of it. Where its coded bits are then the received ones but for
+//! places that lie far enough apart, and it ends in six zeros, it is the only nearest input.
 use crate::chain::Spot;
 use crate::decoding::{Kept, lanes};
 use std::arch::x86_64::*;
 
-/// The delays that a generator taps: bit k is delay k.
-const TAPS: [u128; 2] = [0b110_1101, 0b100_1111];
+mod guessing;
+mod peeling;
+mod register;
 
-/// Words that are worked on together.
-const BLOCK: usize = 16;
+use guessing::{BLOCK, Guess, is_kept};
+use peeling::Peeling;
 
-/// A plane delayed: one of the bits that the guess adds up. Word w is under the mask of w modulo the period, which is repeated.
-struct Term {
-    plane: usize,
-    delay: u32,
-    masks: [u64; 24],
-}
-
-/// A puncturing pattern: its guess, and which places of a word are kept.
+/// A puncturing pattern, and how its words are decoded.
 pub struct Pattern {
     period: &'static [Kept],
-    terms: Vec<Term>,
-    kept: [[u64; 24]; 2],
-}
-
-fn is_kept(period: &[Kept], step: usize, plane: usize) -> bool {
-    period[step % period.len()] != if plane == 0 { Kept::B } else { Kept::A }
-}
-
-/// A sum of received bits: which ones (bit 2 k + plane for delay k), and which input bits it comes to (bit k for delay k).
-#[derive(Clone, Copy)]
-struct Sum {
-    of: u128,
-    input: u128,
-}
-
-/// The received bits that add up to the input bit of a step, as few as were found, from as few past steps as possible.
-fn inverse(period: &[Kept], phase: usize) -> u128 {
-    let step = phase + 60 * period.len();
-    for delays in 1..48 {
-        let (mut basis, mut nothing): (Vec<Sum>, Vec<u128>) = (Vec::new(), Vec::new());
-        for delay in 0..delays {
-            for plane in (0..2).filter(|plane| is_kept(period, step - delay, *plane)) {
-                let mut sum = Sum { of: 1 << (2 * delay + plane), input: TAPS[plane] << delay };
-                for known in &basis {
-                    if sum.input >> (127 - known.input.leading_zeros()) & 1 == 1 {
-                        sum = Sum { of: sum.of ^ known.of, input: sum.input ^ known.input };
-                    }
-                }
-                if sum.input == 0 {
-                    nothing.push(sum.of);
-                    continue;
-                }
-                let top = 127 - sum.input.leading_zeros();
-                for known in &mut basis {
-                    if known.input >> top & 1 == 1 {
-                        *known = Sum { of: known.of ^ sum.of, input: known.input ^ sum.input };
-                    }
-                }
-                basis.push(sum);
-            }
-        }
-        let newest = basis.iter().find(|sum| sum.input == 1);
-        if let Some(found) = newest {
-            let count = nothing.len().min(12);
-            let with = |chosen: u32| (0..count).filter(|n| chosen >> n & 1 == 1).fold(found.of, |sum, n| sum ^ nothing[n]);
-            return (0..1 << count).map(with).min_by_key(|sum| sum.count_ones()).unwrap();
-        }
-    }
-    unreachable!()
+    guess: Guess,
+    peeling: Peeling,
 }
 
 impl Pattern {
     pub fn new(period: &'static [Kept]) -> Pattern {
-        let p = period.len();
-        let sums: Vec<u128> = (0..p).map(|phase| inverse(period, phase)).collect();
-        let masks = |is_in: &dyn Fn(usize) -> bool| {
-            std::array::from_fn(|word| (0..64).filter(|bit| is_in(64 * (word % p) + bit)).fold(0, |mask, bit| mask | 1 << bit))
-        };
-        let mut terms = Vec::new();
-        for delay in 0..48 {
-            for plane in 0..2 {
-                let place = 2 * delay + plane;
-                if sums.iter().any(|sum| sum >> place & 1 == 1) {
-                    terms.push(Term { plane, delay: delay as u32, masks: masks(&|step| sums[step % p] >> place & 1 == 1) });
-                }
-            }
-        }
-        let kept = [0, 1].map(|plane| masks(&|step| is_kept(period, step, plane)));
-        Pattern { period, terms, kept }
+        Pattern { period, guess: Guess::new(period), peeling: Peeling::new(period) }
     }
 }
 
@@ -98,22 +30,13 @@ pub struct Word {
     steps: usize,
     planes: [Vec<u64>; 2],
     pub input: Vec<u64>,
-}
-
-/// The bits of neighbouring steps by a delay.
-#[inline(always)]
-fn delayed(bits: &[u64; BLOCK + 1], at: usize, delay: u32) -> u64 {
-    bits[at + 1] << delay | bits[at] >> 1 >> (63 - delay)
-}
-
-#[inline(always)]
-fn block(bits: &[u64], at: usize) -> &[u64; BLOCK + 1] {
-    bits[at - 1..at + BLOCK].try_into().unwrap()
+    /// Where the coded bits of the guess aren't the received ones.
+    wrong: [Vec<u64>; 2],
 }
 
 impl Word {
     pub fn new() -> Word {
-        Word { steps: 0, planes: [Vec::new(), Vec::new()], input: Vec::new() }
+        Word { steps: 0, planes: [Vec::new(), Vec::new()], input: Vec::new(), wrong: [Vec::new(), Vec::new()] }
     }
 
     /// Room for a word, and for a symbol behind it.
@@ -136,42 +59,40 @@ impl Word {
         }
     }
 
-    /// Guesses an input, and says whether it is the word's at distance 0.
-    #[inline(never)]
-    pub fn is_clean(&mut self, pattern: &Pattern) -> bool {
-        let p = pattern.period.len();
-        let mut phase = 0;
-        for at in (1..=self.steps / 64 + 1).step_by(BLOCK) {
-            let mut guess = [0u64; BLOCK];
-            for term in &pattern.terms {
-                let bits = block(&self.planes[term.plane], at);
-                let masks: &[u64; BLOCK] = term.masks[phase..phase + BLOCK].try_into().unwrap();
-                for i in 0..BLOCK {
-                    guess[i] ^= delayed(bits, i, term.delay) & masks[i];
-                }
-            }
-            self.input[at..at + BLOCK].copy_from_slice(&guess);
-            let input = block(&self.input, at);
-            let (a, b) = (block(&self.planes[0], at), block(&self.planes[1], at));
-            let mut wrong = 0;
-            for i in 0..BLOCK {
-                let of_both = input[i + 1] ^ delayed(input, i, 2) ^ delayed(input, i, 3) ^ delayed(input, i, 6);
-                wrong |= (of_both ^ delayed(input, i, 5) ^ a[i + 1]) & pattern.kept[0][phase + i];
-                wrong |= (of_both ^ delayed(input, i, 1) ^ b[i + 1]) & pattern.kept[1][phase + i];
-            }
-            if wrong != 0 {
-                return false;
-            }
-            phase = (phase + BLOCK) % p;
-        }
+    /// Whether the guess is an input that ends in six zeros.
+    fn is_ended(&self) -> bool {
         let end = self.steps - 6;
         self.input[1 + end / 64] >> (end % 64) == 0 && self.input[2 + end / 64..].iter().all(|word| *word == 0)
     }
 
+    /// Guesses the input; the distance, if it is the only nearest one.
+    pub fn guess(&mut self, pattern: &Pattern) -> Option<u32> {
+        let Pattern { guess, peeling, .. } = pattern;
+        // A word before the blocks, and one behind them, up to which nothing is guessed.
+        let words = (1 + self.steps / 64).next_multiple_of(BLOCK) + 2;
+        let input = &mut self.input[..words];
+        for wrong in &mut self.wrong {
+            wrong.resize(words, 0);
+            wrong[words - 1] = 0;
+        }
+        let wrong = guess.all(&self.planes, input, &mut self.wrong, peeling.most)?;
+        if wrong > 0 {
+            peeling.peel(input, &mut self.wrong);
+        }
+        if !self.is_ended() {
+            return None;
+        }
+        if wrong == 0 {
+            return Some(0);
+        }
+        guess.compare(&self.planes, &self.input[..words], &mut self.wrong);
+        peeling.count(&self.wrong)
+    }
+
     /// Finds the first nearest input, and answers its distance.
     pub fn decode(&mut self, pattern: &Pattern, choices: &mut Vec<u64>) -> u32 {
-        if self.is_clean(pattern) {
-            return 0;
+        if let Some(distance) = self.guess(pattern) {
+            return distance;
         }
         // Each word is written, so what was left there may stay.
         if choices.len() < self.steps {
@@ -347,20 +268,20 @@ mod tests {
         for name in ["half", "two_thirds", "three_quarters", "five_sixths"] {
             let period = crate::decoding::period(name).unwrap();
             let pattern = Pattern::new(period);
-            let mut clean = 0;
+            let mut guessed = 0;
             for (seed, wrong) in (1..40).flat_map(|seed| [0, 1000, 20_000, 300_000].map(|wrong| (seed, wrong))) {
                 let (mut word, list) = received(period, 6 + 17 * seed as usize, wrong, seed);
                 let steps = word.steps;
                 let mut choices = vec![0; steps];
                 let wanted = plain::backwards(&list, period, &mut choices);
                 let input = forwards(&choices);
-                clean += u32::from(word.is_clean(&pattern));
+                guessed += u32::from(word.guess(&pattern).is_some());
                 assert_eq!(word.decode(&pattern, &mut Vec::new()), wanted, "{name} {seed} {wrong}");
                 for (step, bit) in input.iter().enumerate() {
                     assert_eq!(word.input[1 + step / 64] >> (step % 64) & 1 == 1, *bit, "{name} {seed} {wrong} {step}");
                 }
             }
-            assert!(clean >= 39, "{name} {clean}");
+            assert!(guessed >= 60, "{name} {guessed}");
         }
     }
 }

@@ -342,14 +342,58 @@ impl<W: Write> Account for Results<W> {
     }
 }
 
+/// A short text in a row of octets, and how long it is. Rows are put whole, and what is put next begins where the text ends.
+#[derive(Clone, Copy)]
+struct Short<const N: usize> {
+    octets: [u8; N],
+    length: u8,
+}
+
+impl<const N: usize> Short<N> {
+    fn of(text: &[u8]) -> Self {
+        let mut short = Short { octets: [0; N], length: text.len() as u8 };
+        short.octets[..text.len()].copy_from_slice(text);
+        short
+    }
+}
+
+/// Numbers below this have their digits in a table.
+const SMALL: usize = 1000;
+
+/// Room for a line: `job`, numbers of 5, 5 and 3 digits, a distance of 39, and four points; and for what a row reaches beyond it.
+const LINE: usize = 128;
+
+/// The lines of a symbol: so far, and where the next one goes.
+struct Page {
+    octets: Vec<u8>,
+    at: usize,
+}
+
+impl Page {
+    #[inline(always)]
+    fn put<const N: usize>(&mut self, text: &Short<N>) {
+        self.octets[self.at..self.at + N].copy_from_slice(&text.octets);
+        self.at += usize::from(text.length);
+    }
+
+    fn put_text(&mut self, text: &[u8]) {
+        self.octets[self.at..self.at + text.len()].copy_from_slice(text);
+        self.at += text.len();
+    }
+}
+
 /// The text of `detect`.
 struct Lines<W> {
     sink: W,
-    text: Vec<u8>,
-    /// What the lines of a symbol begin with.
-    prefix: Vec<u8>,
-    /// A point's text by its label, and how long it is.
-    points: [([u8; 8], usize); 64],
+    page: Page,
+    /// The text of a large number.
+    digits: Vec<u8>,
+    /// The subcarriers' numbers, each with a space behind it.
+    carriers: Vec<Short<4>>,
+    /// The small distances.
+    numbers: Vec<Short<4>>,
+    /// A point's text by its label.
+    points: [Short<8>; 64],
     made_for: u32,
 }
 
@@ -360,14 +404,23 @@ fn level_text(text: &mut Vec<u8>, level: i8) {
 
 impl<W: Write> Lines<W> {
     fn new(sink: W) -> Self {
-        Lines { sink, text: Vec::new(), prefix: Vec::new(), points: [([0; 8], 0); 64], made_for: 0 }
+        let carriers = (0..114).map(|carrier| Short::of(format!("{carrier} ").as_bytes())).collect();
+        let numbers = (0..SMALL).map(|number| Short::of(number.to_string().as_bytes())).collect();
+        let page = Page { octets: Vec::new(), at: 0 };
+        Lines { sink, page, digits: Vec::new(), carriers, numbers, points: [Short::of(b""); 64], made_for: 0 }
     }
 
-    fn begin_line(&mut self, carrier: u8, distance: u128) {
-        self.text.extend_from_slice(&self.prefix);
-        push_number(&mut self.text, carrier.into());
-        self.text.push(b' ');
-        push_number(&mut self.text, distance);
+    #[inline(always)]
+    fn begin_line(&mut self, prefix: &Short<16>, carrier: u8, distance: u128) {
+        self.page.put(prefix);
+        self.page.put(&self.carriers[usize::from(carrier)]);
+        if distance < SMALL as u128 {
+            self.page.put(&self.numbers[distance as usize]);
+        } else {
+            self.digits.clear();
+            push_number(&mut self.digits, distance);
+            self.page.put_text(&self.digits);
+        }
     }
 
     fn set_points(&mut self, bits: u32) {
@@ -378,11 +431,38 @@ impl<W: Write> Lines<W> {
             let mut text = Vec::new();
             level_text(&mut text, level(label >> of_q, of_i));
             level_text(&mut text, level(label & ((1 << of_q) - 1), of_q));
-            let (into, length) = &mut self.points[usize::from(label)];
-            into[..text.len()].copy_from_slice(&text);
-            *length = text.len();
+            self.points[usize::from(label)] = Short::of(&text);
         }
         self.made_for = bits;
+    }
+
+    /// The lines of data subcarriers from a lane to another.
+    #[inline(always)]
+    fn put_lanes<const STREAMS: usize>(&mut self, plan: &Plan, prefix: &Short<16>, lanes: std::ops::Range<usize>, left: &mut usize) {
+        for lane in lanes {
+            let distance = match plan.left.get(*left) {
+                Some((at, distance)) if *at == lane => {
+                    *left += 1;
+                    *distance
+                }
+                _ => plan.found.distance[lane].into(),
+            };
+            self.begin_line(prefix, plan.data[lane].carrier, distance);
+            for label in &plan.found.labels[lane].to_le_bytes()[..STREAMS] {
+                self.page.put(&self.points[usize::from(label & 63)]);
+            }
+            self.page.put(&Short { octets: *b"\n", length: 1 });
+        }
+    }
+
+    /// A pilot's line.
+    fn put_pilot(&mut self, plan: &mut Plan, at: usize, prefix: &Short<16>, octets: &[u8], signs: [bool; 4]) {
+        let distance = plan.pilot(at, octets, signs);
+        self.begin_line(prefix, plan.pilots[at].carrier, distance);
+        for is_negative in &signs[..plan.streams] {
+            self.page.put_text(if *is_negative { b" -1 0" } else { b" 1 0" });
+        }
+        self.page.put_text(b"\n");
     }
 }
 
@@ -394,48 +474,26 @@ impl<W: Write> Account for Lines<W> {
             self.set_points(plan.bits);
         }
         plan.detect(octets);
-        self.prefix.clear();
-        for (word, number) in [(&b"job "[..], u128::from(frame)), (b" ", symbol as u128)] {
-            self.prefix.extend_from_slice(word);
-            push_number(&mut self.prefix, number);
-        }
-        self.prefix.push(b' ');
-        self.text.clear();
-        let (mut pilot, mut left) = (0, 0);
-        for lane in 0..=plan.data.len() {
-            let carrier = plan.data.get(lane).map_or(u8::MAX, |data| data.carrier);
-            while plan.pilots.get(pilot).is_some_and(|pilot| pilot.carrier < carrier) {
+        let prefix = Short::of(format!("job {frame} {symbol} ").as_bytes());
+        self.page.at = 0;
+        self.page.octets.resize(LINE * (plan.data.len() + plan.pilots.len() + 1), 0);
+        let (mut lane, mut left) = (0, 0);
+        for pilot in 0..=plan.pilots.len() {
+            let carrier = plan.pilots.get(pilot).map_or(u8::MAX, |pilot| pilot.carrier);
+            let lanes = lane..lane + plan.data[lane..].iter().take_while(|data| data.carrier < carrier).count();
+            lane = lanes.end;
+            match plan.streams {
+                1 => self.put_lanes::<1>(plan, &prefix, lanes, &mut left),
+                2 => self.put_lanes::<2>(plan, &prefix, lanes, &mut left),
+                3 => self.put_lanes::<3>(plan, &prefix, lanes, &mut left),
+                _ => self.put_lanes::<4>(plan, &prefix, lanes, &mut left),
+            }
+            if pilot < plan.pilots.len() {
                 let signs = negative(plan.pilots[pilot].number);
-                let distance = plan.pilot(pilot, octets, signs);
-                self.begin_line(plan.pilots[pilot].carrier, distance);
-                for is_negative in &signs[..plan.streams] {
-                    self.text.extend_from_slice(if *is_negative { b" -1 0" } else { b" 1 0" });
-                }
-                self.text.push(b'\n');
-                pilot += 1;
+                self.put_pilot(plan, pilot, &prefix, octets, signs);
             }
-            if lane == plan.data.len() {
-                break;
-            }
-            let distance = match plan.left.get(left) {
-                Some((at, distance)) if *at == lane => {
-                    left += 1;
-                    *distance
-                }
-                _ => plan.found.distance[lane].into(),
-            };
-            self.begin_line(carrier, distance);
-            let mut labels = plan.found.labels[lane];
-            for _ in 0..plan.streams {
-                let (octets, length) = &self.points[(labels & 63) as usize];
-                let end = self.text.len() + length;
-                self.text.extend_from_slice(octets);
-                self.text.truncate(end);
-                labels >>= 8;
-            }
-            self.text.push(b'\n');
         }
-        self.sink.write_all(&self.text).unwrap();
+        self.sink.write_all(&self.page.octets[..self.page.at]).unwrap();
     }
 
     fn end(&mut self, _: u16, _: u16) {}
