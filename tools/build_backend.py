@@ -2,8 +2,8 @@
 left in this folder. The package is Python and nothing else; a wheel of it is an archive of its files with a description
 (PEP 427), and an archive of sources has the folder as it is (PEP 517).
 
-Settings of a wheel, all of them files but the last: `version`, which says what it was made of; `library`, the shared library,
-which is put beside the modules; and the `platform` that the library runs on, as manylinux_2_17_x86_64.
+Settings of a wheel, all of them files but the last: `version`, which says what it was made of; `library`, the shared library, and
+`header`, mizgaure.h, which are put beside the modules; and the `platform` that the library runs on, as manylinux_2_17_x86_64.
 
 Before Python 3.11 there is no reader of TOML in the library, and pip is asked for tomli where it isn't there.
 """
@@ -73,8 +73,9 @@ def build_wheel(wheel_directory, config_settings=None, metadata_directory=None):
     tag = f"py3-none-{settings.get('platform', 'any')}"
     commands = "".join(f"{name} = {function}\n" for name, function in project["scripts"].items())
     members = {name: path.read_bytes() for name, path in _sources().items()}
-    if "library" in settings:
-        members[f"{project['name']}/libmizgaure.so.0"] = Path(settings["library"]).read_bytes()
+    for setting, name in (("library", "libmizgaure.so.0"), ("header", "mizgaure.h")):
+        if setting in settings:
+            members[f"{project['name']}/{name}"] = Path(settings[setting]).read_bytes()
     if "version" in settings:
         members[f"{title}.dist-info/version"] = Path(settings["version"]).read_bytes()
     members[f"{title}.dist-info/METADATA"] = _metadata(project).encode()

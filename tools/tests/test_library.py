@@ -420,6 +420,24 @@ def test_an_out_is_of_its_type_and_shape_or_refused(out):
     assert not np.any(out)
 
 
+def test_structs_at_odd_places_are_copied_or_refused():
+    """A type that compares equal, but asks for no alignment, is no way around it."""
+    rate, channels = Rate(20, 27), np.ones(2, library.CHANNEL)
+    due = library.detect_symbols(rate, channels, RECEIVED)
+    for loose in (library.HIT, np.dtype([(name, library.HIT[name]) for name in library.HIT.names])):
+        assert loose == library.HIT
+        out = np.zeros(6 * 24 + 1, np.uint8)[1:].view(loose).reshape(3, 2)
+        with pytest.raises(InputError, match="aligned"):
+            library.detect_symbols(rate, channels, RECEIVED, hits=out)
+        assert not out.view(np.uint8).any()
+    for loose in (library.CHANNEL, np.dtype([(name, library.CHANNEL[name]) for name in library.CHANNEL.names])):
+        odd = np.zeros(2 * 32 + 1, np.uint8)[1:].view(loose)
+        odd[...] = channels
+        assert odd.ctypes.data % 2 == 1
+        found = library.detect_symbols(rate, odd, RECEIVED)
+        assert all((one == other).all() for one, other in zip(found, due))
+
+
 def test_an_unaligned_out_is_refused():
     out = unaligned(np.zeros((2, 2, 2, 2), np.int32))
     with pytest.raises(InputError, match="aligned"):
@@ -473,6 +491,36 @@ def test_without_the_library_the_import_says_so(given, said):
     variables = {**os.environ, "MIZGAURE_LIBRARY": given, "PYTHONPATH": str(TOP / "tools" / "src")}
     run = subprocess.run(words, env=variables, capture_output=True, text=True, check=False)
     assert run.returncode == 1 and "ImportError" in run.stderr and said in run.stderr
+
+
+@pytest.mark.parametrize("old, new, said", [
+    ("", "", ""),
+    ("#define MIZGAURE_VERSION 5\n", "#define MIZGAURE_VERSION 6\n", "its calls are those of version 6, and not 5"),
+    ("MIZGAURE_NO_SEED = 4", "MIZGAURE_NO_SEED = 13", "MIZGAURE_NO_SEED is another"),
+    ("MIZGAURE_NOT_CERTIFIED = 12", "MIZGAURE_NOT_CERTIFIED = 12, MIZGAURE_NO_TIME = 13", "MIZGAURE_NO_TIME is more"),
+    ("uint32_t mizgaure_origins(", "uint32_t mizgaure_sources(", "mizgaure_origins isn't there"),
+    ("uint32_t mizgaure_points(uint8_t bits,", "uint32_t mizgaure_points(uint16_t bits,", "mizgaure_points is another"),
+    ("uint64_t mizgaure_rx_size(", "uint32_t mizgaure_rx_size(", "mizgaure_rx_size is another"),
+    ("uint8_t *octets, size_t octets_n, mizgaure_cost *cost", "uint8_t *octets, mizgaure_cost *cost", "mizgaure_soft_frame is another"),
+])
+def test_another_header_beside_the_library_is_refused(tmp_path, old, new, said):
+    """In each place where packages have it. Only the first difference is told."""
+    header = (TOP / "library" / "mizgaure.h").read_text()
+    assert old in header
+    header = header.replace(old, new, 1)
+    for place in ("lib/mizgaure.h", "include/mizgaure.h"):
+        folder = tmp_path / place.replace("/", "-")
+        for name in ("lib", "include"):
+            (folder / name).mkdir(parents=True)
+        copied = folder / "lib" / "libmizgaure.so.0"
+        copied.write_bytes(library.path().read_bytes())
+        (folder / place).write_text(header)
+        run = subprocess.run(
+            [sys.executable, "-c", "from mizgaure import library; print(library.path())"], capture_output=True, text=True, check=False,
+            env={**os.environ, "MIZGAURE_LIBRARY": str(copied), "PYTHONPATH": str(TOP / "tools" / "src")},
+        )
+        assert (run.stdout.strip() == str(copied)) is not bool(said), run.stderr
+        assert not said or ("ImportError" in run.stderr and run.stderr.rstrip().endswith(said))
 
 
 def test_the_version_is_that_of_the_header():

@@ -65,9 +65,7 @@ class Inside:
     @property
     def path(self) -> str:
         """The path of the library."""
-        with open("/proc/self/maps", encoding="utf-8", errors="replace") as maps:
-            found = [line.split(None, 5)[5].rstrip("\n") for line in maps if "libmizgaure" in line]
-        return found[0] if found else "libmizgaure"
+        return str(library.path())
 
     def jobs(self, number: int, frame: CaptureFrame) -> Heard:
         """The answers to a frame's jobs, as those of ``radio detect``."""

@@ -4,7 +4,8 @@ Each function is one call of the library, which ``mizgaure.h`` and docs/LIBRARY.
 802.11-2012. The library is proved; this module, which hands it arrays, is tested and not proved.
 
 The library is looked for at ``MIZGAURE_LIBRARY``, then beside this file as ``libmizgaure.so.0``, and then by that name as the
-system does. Importing this module fails with an ``ImportError`` where there is none, or one of other calls.
+system does. Importing this module fails with an ``ImportError`` where there is none, or one of other calls, and where a header that
+comes with it, as in packages, declares another version, other calls or other faults.
 
 Arrays of the right type, C-contiguous and aligned, are passed as they are; others are converted. An array that is written to, as an
 ``out`` is, and one for ``hits``, ``labels`` or ``sums``, is never converted, and shares memory with no other argument, but for
@@ -15,26 +16,29 @@ from __future__ import annotations
 
 import ctypes
 import os
+import re
+import sys
 from pathlib import Path
 from typing import NamedTuple, Optional, Union
 
 import numpy as np
 
+from .declarations import Declarations, Signature, header_of, read_declarations
 from .errors import InputError
 from .rates import Rate
 
 VERSION = 5
 
-#: An entry of a channel above the diagonal.
-TAP = np.dtype([("re", "<i2"), ("im", "<i2")])
+#: An entry of a channel above the diagonal. As the types below, it is laid out and aligned as in the header.
+TAP = np.dtype([("re", "<i2"), ("im", "<i2")], align=True)
 #: The triangular channel of a subcarrier: its diagonal, and the entries above it row by row (32 octets).
-CHANNEL = np.dtype([("diagonal", "<u2", 4), ("above", TAP, 6)])
+CHANNEL = np.dtype([("diagonal", "<u2", 4), ("above", TAP, 6)], align=True)
 #: What was received on the rows of a subcarrier: real and imaginary parts (32 octets).
-RECEIVED = np.dtype([("samples", "<i4", (4, 2))])
+RECEIVED = np.dtype([("samples", "<i4", (4, 2))], align=True)
 #: What was found for a subcarrier: a point (I, Q) for each stream, and the distance ``low + 2**64 * high`` (24 octets).
-HIT = np.dtype([("points", "i1", (4, 2)), ("low", "<u8"), ("high", "<u8")])
+HIT = np.dtype([("points", "i1", (4, 2)), ("low", "<u8"), ("high", "<u8")], align=True)
 #: A sum of squared distances: ``low + 2**64 * high`` (16 octets).
-DISTANCE = np.dtype([("low", "<u8"), ("high", "<u8")])
+DISTANCE = np.dtype([("low", "<u8"), ("high", "<u8")], align=True)
 
 #: What holds octets, as ``bytes`` and arrays of uint8 do.
 Octets = Union[bytes, bytearray, memoryview, np.ndarray]
@@ -168,15 +172,20 @@ _library = _opened()
 _P, _N, _U8, _U16, _U32, _U64 = ctypes.c_void_p, ctypes.c_size_t, ctypes.c_uint8, ctypes.c_uint16, ctypes.c_uint32, ctypes.c_uint64
 
 
+_calls: dict[str, Signature] = {}
+
+
 def _call(name: str, *types: type):
     try:
         function = getattr(_library, "mizgaure_" + name)
     except AttributeError as error:
         raise ImportError(f"the library {_library._name} lacks a call: {error}") from error
     function.argtypes, function.restype = types, _U64 if name.endswith("_size") else _U32
+    _calls[name] = types, function.restype
     return function
 
 
+_version = _call("version")
 _nearest = _call("nearest", _U8, _U8, _P, _P, _P)
 _detect_symbols = _call("detect_symbols", _U8, _U8, _P, _N, _P, _N, _P, _N, _P, _N, _P, _N)
 _weigh_symbols = _call("weigh_symbols", _U8, _U8, _P, _N, _P, _N, _P, _N)
@@ -222,10 +231,38 @@ _lrx_size = _call("lrx_size", _P, _N)
 _many_size = _call("many_size", _P, _N)
 _check_size = _call("check_size", _P, _N)
 
+
+class _Found(ctypes.Structure):
+    """What ``dladdr`` says of an address: where the file is that it is in, and more."""
+
+    _fields_ = [("path", ctypes.c_char_p), ("base", _P), ("name", ctypes.c_char_p), ("at", _P)]
+
+
+def path() -> Path:
+    """The library's file."""
+    found, tell = _Found(), getattr(ctypes.CDLL(None), "dladdr", None)
+    known = tell and tell(ctypes.cast(_version, _P), ctypes.byref(found))
+    return Path(os.fsdecode(found.path) if known else _library._name)
+
+
+def _compare() -> None:
+    """Refuses a header that comes with the library and isn't that of these calls."""
+    header = header_of(path())
+    if header is None:
+        return
+    faults = {re.sub(r"\B([A-Z])", r"_\1", fault.__name__).upper(): number for number, fault in enumerate(FAULTS) if fault}
+    differs = read_declarations(header.read_text(encoding="utf-8")).difference(Declarations(VERSION, _calls, {"DONE": 0, **faults}))
+    if differs:
+        raise ImportError(f"the header {header} isn't that of this module and of the library {path()}: {differs}")
+
+
+_compare()
+
 _PERIODS = (1, 2, 3, 5)
-_INT32, _UINT8 = np.dtype(np.int32), np.dtype(np.uint8)
-_octet_at = ctypes.c_char.from_buffer
+_BOOL, _INT8, _UINT8, _UINT16, _INT32 = map(np.dtype, (np.bool_, np.int8, np.uint8, np.uint16, np.int32))
 _EMPTY = 16
+#: Of an array's flags, by numpy's C interface: that it is C-contiguous and aligned, and writeable too.
+_READABLE, _WRITEABLE = 0x101, 0x501
 #: What stands for outputs that are left out.
 _NO_HITS, _NO_LABELS, _NO_SUMS = (np.empty(0, dtype) for dtype in (HIT, _UINT8, DISTANCE))
 
@@ -242,100 +279,135 @@ def _ranged(name: str, value: int, top: int) -> int:
     return int(value)
 
 
-def _fits(array, dtype) -> bool:
-    if type(array) is not np.ndarray or array.dtype != dtype:
+class _Head(ctypes.Structure):
+    """How an array of CPython begins: numpy's C interface has the address of its elements behind the head of the object."""
+
+    _fields_ = [("object", ctypes.c_byte * object.__basicsize__), ("data", ctypes.c_void_p)]
+
+
+def _head_at(array: np.ndarray) -> int:
+    """Where an array that has elements lies: five times as quick as ``array.ctypes.data``."""
+    return _head(id(array)).data
+
+
+def _asked(array: np.ndarray) -> int:
+    return array.ctypes.data
+
+
+_head = _Head.from_address
+
+
+def _is_quick() -> bool:
+    """Whether heads are as they should be, by arrays of each kind: of structs and of numbers, with axes and without, parts and fixed ones."""
+    if sys.implementation.name != "cpython":
         return False
-    flags = array.flags
-    return flags.c_contiguous and flags.aligned
+    fixed = np.frombuffer(b"octets", _UINT8)
+    made = (np.empty(3, HIT), np.empty((), DISTANCE), np.empty((2, 3), _INT32), np.empty(5, _UINT8)[2:], np.empty((2, 1), CHANNEL)[1:], fixed)
+    return all(_head_at(array) == _asked(array) for array in made)
 
 
-def _given(array, dtype) -> np.ndarray:
+_place = _head_at if _is_quick() else _asked
+
+
+def _at(array: np.ndarray) -> int:
+    """Where the array lies, and that of MIZGAURE_EMPTY if it has no elements."""
+    return _place(array) if array.size else _EMPTY
+
+
+def _is(found: np.dtype, dtype: np.dtype) -> bool:
+    """Whether the types are the same, alignment too: one that compares equal may ask for less, as one without ``align=True`` does."""
+    return found is dtype or (found == dtype and found.alignment == dtype.alignment)
+
+
+def _fits(array, dtype: np.dtype) -> bool:
+    return type(array) is np.ndarray and _is(array.dtype, dtype) and array.flags.num & _READABLE == _READABLE
+
+
+def _given(array, dtype: np.dtype) -> np.ndarray:
     """The array itself where it fits, and else one that does."""
     if _fits(array, dtype):
         return array
     made = np.asarray(array)
-    if made.dtype != dtype and made.dtype.names is None and np.dtype(dtype).names is None:
+    if made.dtype != dtype and made.dtype.names is None and dtype.names is None:
         if made.size and made.dtype.kind not in "biu":
-            raise InputError(f"an array of {made.dtype} is no array of {np.dtype(dtype)}")
+            raise InputError(f"an array of {made.dtype} is no array of {dtype}")
         fit = made.astype(dtype)
         if not np.array_equal(fit, made):
-            raise InputError(f"a number of the array doesn't fit into {np.dtype(dtype)}")
+            raise InputError(f"a number of the array doesn't fit into {dtype}")
         made = fit
     elif made.dtype != dtype:
-        raise InputError(f"an array of {made.dtype} is no array of {np.dtype(dtype)}")
+        raise InputError(f"an array of {made.dtype} is no array of {dtype}")
     return np.require(made, dtype, ("C", "A"))
 
 
-def _samples(received) -> np.ndarray:
-    """Received samples as RECEIVED, also from int32 of shape (.., 4, 2)."""
+def _samples(received) -> tuple[np.ndarray, tuple[int, ...]]:
+    """Received samples, RECEIVED or int32 of shape (.., 4, 2): an array of them, and their shape without these axes."""
     if _fits(received, RECEIVED):
-        return received
-    if _fits(received, _INT32) and received.shape[-2:] == (4, 2):
-        return np.ndarray(received.shape[:-2], RECEIVED, received)
-    made = np.asarray(received)
-    if made.dtype == RECEIVED:
-        return np.require(made, RECEIVED, ("C", "A"))
-    if made.ndim < 2 or made.shape[-2:] != (4, 2):
-        raise InputError(f"received samples have the shape (.., 4, 2), and not {made.shape}")
-    return _given(made, np.int32).reshape(made.size // 8, 8).view(RECEIVED).reshape(made.shape[:-2])
+        return received, received.shape
+    received = np.asarray(received)
+    shape = received.shape
+    if received.dtype == RECEIVED:
+        return _given(received, RECEIVED), shape
+    if shape[-2:] != (4, 2):
+        raise InputError(f"received samples have the shape (.., 4, 2), and not {shape}")
+    return _given(received, _INT32), shape[:-2]
 
 
 def _octets(given: Octets) -> np.ndarray:
     """The octets as they lie in memory."""
     if isinstance(given, np.ndarray):
-        return _given(given, np.uint8).reshape(-1)
-    return np.frombuffer(given, np.uint8) if len(given) else np.zeros(0, np.uint8)
+        return _given(given, _UINT8).reshape(-1)
+    return np.frombuffer(given, _UINT8) if len(given) else np.zeros(0, _UINT8)
 
 
-def _out(out: Optional[np.ndarray], shape, dtype) -> np.ndarray:
+def _out(out: Optional[np.ndarray], shape: tuple[int, ...], dtype: np.dtype) -> np.ndarray:
     if out is None:
         return np.empty(shape, dtype)
-    shape = (shape,) if isinstance(shape, int) else shape
-    if not isinstance(out, np.ndarray) or out.dtype != dtype or out.shape != shape:
-        raise InputError(f"out is no array of {np.dtype(dtype)} of the shape {shape}")
-    if not out.flags.carray:
+    if not isinstance(out, np.ndarray) or not (out.dtype is dtype or out.dtype == dtype) or out.shape != shape:
+        raise InputError(f"out is no array of {dtype} of the shape {shape}")
+    if out.flags.num & _WRITEABLE != _WRITEABLE or (out.dtype is not dtype and _at(out) % dtype.alignment):
         raise InputError("out isn't C-contiguous, aligned and writeable")
     return out
 
 
-def _at(array: np.ndarray) -> int:
-    """Where the array lies: by the quickest way that there is, and that of MIZGAURE_EMPTY if it has no elements."""
-    if not array.size:
-        return _EMPTY
-    try:
-        if array.dtype.names is None:
-            return ctypes.addressof(_octet_at(array))
-        if array.ndim:
-            return ctypes.addressof(_octet_at(array.view(_UINT8)))
-    except TypeError:  # a fixed array lends no buffer
-        pass
-    return array.ctypes.data
-
-
-def _wanted(wanted: Wanted, shape: tuple[int, ...], none: np.ndarray) -> np.ndarray:
-    """The array of an output: a new one, the caller's, or `none`, which has its type, where it is left out."""
-    if wanted is False:
-        return none
-    if wanted is True:
-        return np.empty(shape, none.dtype)
-    if wanted is None:
-        raise InputError("an output is True, False or the array that it is put into")
-    return _out(wanted, shape, none.dtype)
-
-
-def _apart(*arrays: np.ndarray, written: int = 1) -> list[int]:
-    """Where the arrays lie, if the first ones, so many as are written, share no octet with another."""
-    addresses, taken = [], []
-    for array in arrays:
-        at = _at(array)
+def _apart(written: list[tuple[np.ndarray, int]], *read: tuple[np.ndarray, int]) -> None:
+    """Refuses arrays that are written to, each with where it lies, of which one shares an octet with another or with those that are read."""
+    taken = []
+    for array, at in written:
         end = at + array.nbytes
         for first, last in taken:
             if first < end and at < last:
                 raise InputError("out shares memory with another argument")
-        if len(taken) < written:
-            taken.append((at, end))
-        addresses.append(at)
-    return addresses
+        taken.append((at, end))
+    for array, at in read:
+        end = at + array.nbytes
+        for first, last in taken:
+            if first < end and at < last:
+                raise InputError("out shares memory with another argument")
+
+
+def _wanted(wanted: Wanted, shape: tuple[int, ...], none: np.ndarray, given: list[tuple[np.ndarray, int]]) -> tuple[np.ndarray, int]:
+    """The array of an output and where it lies: a new one, the caller's, which joins those that are given, or `none`, which has its type,
+    where it is left out."""
+    if wanted is False:
+        return none, _EMPTY
+    if wanted is True:
+        made = np.empty(shape, none.dtype)
+        return made, _at(made)
+    if wanted is None:
+        raise InputError("an output is True, False or the array that it is put into")
+    made = _out(wanted, shape, none.dtype), _at(wanted)
+    given.append(made)
+    return made
+
+
+def _into(out: Optional[np.ndarray], shape: tuple[int, ...], dtype: np.dtype, *read: tuple[np.ndarray, int]) -> tuple[np.ndarray, int]:
+    """The array of a call's only output, a new one or the caller's, and where it lies, apart from those that are read."""
+    made = _out(out, shape, dtype)
+    at = _at(made)
+    if out is not None:
+        _apart([(made, at)], *read)
+    return made, at
 
 
 def _rate(rate: Rate) -> tuple[int, int]:
@@ -350,7 +422,15 @@ def _erased(erased: int) -> tuple[int, int]:
 
 def version() -> int:
     """The version of the library's calls."""
-    return _library.mizgaure_version()
+    return _version()
+
+
+def _job(channel: np.ndarray, received: np.ndarray) -> tuple[np.ndarray, np.ndarray]:
+    """The channel of a job and what was received on it."""
+    channel, received = _given(channel, CHANNEL), _samples(received)[0]
+    if channel.size != 1 or received.nbytes != RECEIVED.itemsize:
+        raise BadLength("a job has one channel and what was received on it")
+    return channel, received
 
 
 def nearest(rate: Rate, channel: np.ndarray, received: np.ndarray) -> np.void:
@@ -364,11 +444,9 @@ def nearest(rate: Rate, channel: np.ndarray, received: np.ndarray) -> np.void:
 
     Both are whole numbers in one unit, the squared distance of the hit in its square; the points are odd numbers (clause 20.3.11.9).
     """
-    channel, received, found = _given(channel, CHANNEL), _samples(received), np.empty((), HIT)
-    if channel.size != 1 or received.size != 1:
-        raise BadLength("a job has one channel and what was received on it")
+    channel, received, found = *_job(channel, received), np.empty(1, HIT)
     _check(_nearest(*_rate(rate), _at(channel), _at(received), _at(found)))
-    return found[()]
+    return found[0]
 
 
 class Detected(NamedTuple):
@@ -406,13 +484,17 @@ def detect_symbols(rate: Rate, channels: np.ndarray, received: np.ndarray, *,
     -------
     Detected
     """
-    channels, received = _given(channels, CHANNEL), _samples(received)
-    shape = received.shape
-    hits, labels = _wanted(hits, shape, _NO_HITS), _wanted(labels, (*shape, rate.streams), _NO_LABELS)
-    sums = _wanted(sums, shape[:-1], _NO_SUMS)
-    hits_at, labels_at, sums_at, of, samples = _apart(hits, labels, sums, channels, received, written=3)
+    channels, (received, shape) = _given(channels, CHANNEL), _samples(received)
+    of, samples = _at(channels), _at(received)
+    given: list[tuple[np.ndarray, int]] = []
+    hits, hits_at = _wanted(hits, shape, _NO_HITS, given)
+    labels, labels_at = _wanted(labels, (*shape, rate.streams), _NO_LABELS, given)
+    sums, sums_at = _wanted(sums, shape[:-1], _NO_SUMS, given)
+    if given:
+        _apart(given, (channels, of), (received, samples))
     _check(_detect_symbols(
-        *_rate(rate), of, channels.size, samples, received.size, hits_at, hits.size, labels_at, labels.size, sums_at, sums.size,
+        *_rate(rate), of, channels.size, samples, received.nbytes // RECEIVED.itemsize, hits_at, hits.size, labels_at, labels.size,
+        sums_at, sums.size,
     ))
     return Detected(hits, labels, sums)
 
@@ -429,31 +511,29 @@ def weigh_symbols(rate: Rate, channels: np.ndarray, received: np.ndarray, out: O
     A weight is positive where a 1 is likelier: the least distance where the bit is 0 less the least one where it is 1, cut to -65535
     to 65535. The parameters are those of ``detect_symbols``.
     """
-    channels, received = _given(channels, CHANNEL), _samples(received)
-    weights = _out(out, (*received.shape, rate.streams, rate.bits_per_point), np.dtype(np.int32))
-    into, of, samples = _apart(weights, channels, received)
-    _check(_weigh_symbols(*_rate(rate), of, channels.size, samples, received.size, into, weights.size))
+    channels, (received, shape) = _given(channels, CHANNEL), _samples(received)
+    of, samples = _at(channels), _at(received)
+    weights, into = _into(out, (*shape, rate.streams, rate.bits_per_point), _INT32, (channels, of), (received, samples))
+    _check(_weigh_symbols(*_rate(rate), of, channels.size, samples, received.nbytes // RECEIVED.itemsize, into, weights.size))
     return weights
 
 
 def scramble(seed: int, bits: np.ndarray, out: Optional[np.ndarray] = None) -> np.ndarray:
     """The bits with the scrambling sequence of a seed added: bool, shape (n,) (clause 18.3.5.5). ``out`` may be ``bits`` itself."""
-    bits = _given(bits, np.bool_)
-    made = _out(out, bits.shape, np.bool_)
-    if made is not bits:
-        _apart(made, bits)
+    bits = _given(bits, _BOOL)
+    made, into = _into(out, bits.shape, _BOOL, *([] if out is bits else [(bits, _at(bits))]))
     seed = _ranged("the seed", seed, 255)
     if not 1 <= seed <= 127:
         _check(FAULTS.index(NoSeed))
     if made is not bits:
         made[...] = bits
-    _check(_scramble(seed, _at(made), made.size))
+    _check(_scramble(seed, into, made.size))
     return made
 
 
 def recover(bits: np.ndarray) -> int:
     """The seed whose sequence begins with these seven bits (clause 18.3.5.5)."""
-    bits, seed = _given(bits, np.bool_), ctypes.c_uint8()
+    bits, seed = _given(bits, _BOOL), ctypes.c_uint8()
     _check(_recover(_at(bits), bits.size, ctypes.addressof(seed)))
     return seed.value
 
@@ -467,9 +547,9 @@ def sent(pattern: int, steps: int) -> int:
 
 def encode(pattern: int, bits: np.ndarray, out: Optional[np.ndarray] = None) -> np.ndarray:
     """The punctured codeword of input bits, tail included: bool, shape (sent(pattern, n),) (clauses 18.3.5.6 and 20.3.11.6)."""
-    bits = _given(bits, np.bool_)
-    coded = _out(out, sent(pattern, bits.size), np.bool_)
-    into, of = _apart(coded, bits)
+    bits = _given(bits, _BOOL)
+    of = _at(bits)
+    coded, into = _into(out, (sent(pattern, bits.size),), _BOOL, (bits, of))
     _check(_encode(pattern, of, bits.size, into, coded.size))
     return coded
 
@@ -488,18 +568,18 @@ def decode(pattern: int, received: np.ndarray, steps: int, out: Optional[np.ndar
     out : bool, shape (steps,), optional
         Where the bits are put.
     """
-    received, distance = _given(received, np.uint8), ctypes.c_uint32()
-    bits = _out(out, _ranged("the number of steps", steps, 524302), np.bool_)
-    into, of = _apart(bits, received)
+    received, distance = _given(received, _UINT8), ctypes.c_uint32()
+    of = _at(received)
+    bits, into = _into(out, (_ranged("the number of steps", steps, 524302),), _BOOL, (received, of))
     _check(_decode(_ranged("the pattern", pattern, 255), of, received.size, into, bits.size, ctypes.addressof(distance)))
     return bits, distance.value
 
 
 def soft_decode(pattern: int, weights: np.ndarray, steps: int, out: Optional[np.ndarray] = None) -> tuple[np.ndarray, int]:
     """The first terminated input that costs least at weights (int32, positive where a 1 is likelier), and its cost. See ``decode``."""
-    weights, cost = _given(weights, np.int32), ctypes.c_uint64()
-    bits = _out(out, _ranged("the number of steps", steps, 524302), np.bool_)
-    into, of = _apart(bits, weights)
+    weights, cost = _given(weights, _INT32), ctypes.c_uint64()
+    of = _at(weights)
+    bits, into = _into(out, (_ranged("the number of steps", steps, 524302),), _BOOL, (weights, of))
     _check(_soft_decode(_ranged("the pattern", pattern, 255), of, weights.size, into, bits.size, ctypes.addressof(cost)))
     return bits, cost.value
 
@@ -509,16 +589,16 @@ def lay(rate: Rate, first: np.ndarray, second: np.ndarray = ()) -> np.ndarray:
 
     ``first`` and ``second`` have N_CBPS / N_ES bits each; ``second`` is empty where the rate has one encoder.
     """
-    first, second = _given(first, np.bool_), _given(np.zeros(0, np.bool_) if len(second) == 0 else second, np.bool_)
-    bits = np.empty((rate.streams, rate.coded_bits_per_stream), np.bool_)
+    first, second = _given(first, _BOOL), _given(np.zeros(0, _BOOL) if len(second) == 0 else second, _BOOL)
+    bits = np.empty((rate.streams, rate.coded_bits_per_stream), _BOOL)
     _check(_lay(*_rate(rate), _at(first), first.size, _at(second), second.size, _at(bits), bits.size))
     return bits
 
 
 def gather(rate: Rate, bits: np.ndarray) -> tuple[np.ndarray, np.ndarray]:
     """The bits of each encoder of a symbol's, which undoes ``lay``: bool, two arrays."""
-    bits, share = _given(bits, np.bool_), rate.coded_bits // rate.encoders
-    first, second = np.empty(share, np.bool_), np.empty((rate.encoders - 1) * share, np.bool_)
+    bits, share = _given(bits, _BOOL), rate.coded_bits // rate.encoders
+    first, second = np.empty(share, _BOOL), np.empty((rate.encoders - 1) * share, _BOOL)
     _check(_gather(*_rate(rate), _at(bits), bits.size, _at(first), first.size, _at(second), second.size))
     return first, second
 
@@ -528,39 +608,39 @@ def places(rate: Rate, stream: int) -> np.ndarray:
 
     As in the library, the streams count from 1 here.
     """
-    made = np.empty(rate.coded_bits_per_stream, np.uint16)
+    made = np.empty(rate.coded_bits_per_stream, _UINT16)
     _check(_places(*_rate(rate), _ranged("the stream", stream, 255), _at(made), made.size))
     return made
 
 
 def origins(rate: Rate, stream: int) -> np.ndarray:
     """The bit that stands at each place behind the interleaver: uint16, shape (N_CBPSS,). See ``places``."""
-    made = np.empty(rate.coded_bits_per_stream, np.uint16)
+    made = np.empty(rate.coded_bits_per_stream, _UINT16)
     _check(_origins(*_rate(rate), _ranged("the stream", stream, 255), _at(made), made.size))
     return made
 
 
 def points(bits: int, labels: np.ndarray) -> np.ndarray:
     """The points (I, Q) of labels of 1, 2, 4 or 6 bits: int8, shape (.., 2) (clause 20.3.11.9)."""
-    labels = _given(labels, np.uint8)
-    made = np.empty((*labels.shape, 2), np.int8)
+    labels = _given(labels, _UINT8)
+    made = np.empty((*labels.shape, 2), _INT8)
     _check(_points(_ranged("the number of bits", bits, 255), _at(labels), labels.size, _at(made), labels.size))
     return made
 
 
 def labels(bits: int, points: np.ndarray) -> np.ndarray:
     """The labels of 1, 2, 4 or 6 bits of points (I, Q), int8 of shape (.., 2): uint8, shape (..)."""
-    points = _given(points, np.int8)
+    points = _given(points, _INT8)
     if points.ndim < 1 or points.shape[-1] != 2:
         raise InputError(f"points have the shape (.., 2), and not {points.shape}")
-    made = np.empty(points.shape[:-1], np.uint8)
+    made = np.empty(points.shape[:-1], _UINT8)
     _check(_labels(_ranged("the number of bits", bits, 255), _at(points), made.size, _at(made), made.size))
     return made
 
 
 def pilots(rate: Rate, symbol: int, stream: int) -> np.ndarray:
     """The values of the pilots of a symbol on a stream, which counts from 1: int8, shape (N_SP,), 1 or -1 (clause 20.3.11.10)."""
-    made = np.empty(rate.pilots, np.int8)
+    made = np.empty(rate.pilots, _INT8)
     symbol, stream = _ranged("the symbol", symbol, (1 << 32) - 1), _ranged("the stream", stream, 255)
     _check(_pilots(*_rate(rate), symbol, stream, _at(made), made.size))
     return made
@@ -569,7 +649,7 @@ def pilots(rate: Rate, symbol: int, stream: int) -> np.ndarray:
 def transmit(rate: Rate, seed: int, octets: Octets) -> np.ndarray:
     """The points (I, Q) that are sent for a PSDU: int8, shape (N_SYM, N_ST, N_SS, 2) (clause 20.3.11)."""
     octets = _octets(octets)
-    made = np.empty((rate.symbols(octets.size), rate.subcarriers, rate.streams, 2), np.int8)
+    made = np.empty((rate.symbols(octets.size), rate.subcarriers, rate.streams, 2), _INT8)
     _check(_transmit(*_rate(rate), _ranged("the seed", seed, 255), _at(octets), octets.size, _at(made), made.size // 2))
     return made
 
@@ -586,7 +666,7 @@ def decode_frame(rate: Rate, labels: np.ndarray, length: int, erased: int = 0) -
     erased : int
         Bit c is set where subcarrier c, pilots counted, is erased.
     """
-    labels, octets, differences = _given(labels, np.uint8), np.empty(_ranged("the length", length, 65535), np.uint8), ctypes.c_uint32()
+    labels, octets, differences = _given(labels, _UINT8), np.empty(_ranged("the length", length, 65535), _UINT8), ctypes.c_uint32()
     _check(_decode_frame(*_rate(rate), *_erased(erased), _at(labels), labels.size, _at(octets), octets.size, ctypes.addressof(differences)))
     return octets.tobytes(), differences.value
 
@@ -595,7 +675,7 @@ def soft_frame(rate: Rate, weights: np.ndarray, length: int, erased: int = 0) ->
     """The octets of a frame's PSDU by weights, and their cost. The weights are int32, N_SYM * N_CBPS of them in the order of
     ``weigh_symbols``.
     """
-    weights, octets, cost = _given(weights, np.int32), np.empty(_ranged("the length", length, 65535), np.uint8), _Pair()
+    weights, octets, cost = _given(weights, _INT32), np.empty(_ranged("the length", length, 65535), _UINT8), _Pair()
     _check(_soft_frame(*_rate(rate), *_erased(erased), _at(weights), weights.size, _at(octets), octets.size, ctypes.addressof(cost)))
     return octets.tobytes(), cost.low + (cost.high << 64)
 
@@ -614,28 +694,28 @@ def legacy_transmit(rate: int, seed: int, octets: Octets) -> np.ndarray:
     """The points (I, Q) that are sent for a PSDU of clause 18: int8, shape (N_SYM, 52, 2). Rates are 0 to 7, for 6 to 54 Mbit/s."""
     octets = _octets(octets)
     symbols = -(-(22 + 8 * octets.size) // _LEGACY[_legacy_rate(rate)][1])
-    made = np.empty((symbols, 52, 2), np.int8)
+    made = np.empty((symbols, 52, 2), _INT8)
     _check(_legacy_transmit(rate, _ranged("the seed", seed, 255), _at(octets), octets.size, _at(made), made.size // 2))
     return made
 
 
 def legacy_places(rate: int) -> np.ndarray:
     """The place behind the interleaver of each bit of a symbol of clause 18: uint16, shape (N_CBPS,) (clause 18.3.5.7)."""
-    made = np.empty(48 * _LEGACY[_legacy_rate(rate)][0], np.uint16)
+    made = np.empty(48 * _LEGACY[_legacy_rate(rate)][0], _UINT16)
     _check(_legacy_places(rate, _at(made), made.size))
     return made
 
 
 def legacy_origins(rate: int) -> np.ndarray:
     """The bit that stands at each place behind the interleaver of clause 18: uint16, shape (N_CBPS,)."""
-    made = np.empty(48 * _LEGACY[_legacy_rate(rate)][0], np.uint16)
+    made = np.empty(48 * _LEGACY[_legacy_rate(rate)][0], _UINT16)
     _check(_legacy_origins(rate, _at(made), made.size))
     return made
 
 
 def legacy_pilots(symbol: int) -> np.ndarray:
     """The values of the pilots of a symbol of clause 18: int8, shape (4,), 1 or -1 (clause 18.3.5.9)."""
-    made = np.empty(4, np.int8)
+    made = np.empty(4, _INT8)
     _check(_legacy_pilots(_ranged("the symbol", symbol, (1 << 32) - 1), _at(made), made.size))
     return made
 
@@ -649,20 +729,19 @@ def _room(size, given: np.ndarray) -> np.ndarray:
     """An array for an output. Memory that nothing is written to costs nothing, but it may be more than there is."""
     some = 4096 + 8 * given.size
     try:
-        return np.empty(some if size is None else size(_at(given), given.size), np.uint8)
+        return np.empty(some if size is None else size(_at(given), given.size), _UINT8)
     except (MemoryError, OverflowError, ValueError):
-        return np.empty(some, np.uint8)
+        return np.empty(some, _UINT8)
 
 
 def _written(call, given: Octets, *before: int, out: Optional[np.ndarray] = None, room_by=None) -> Union[bytes, memoryview]:
     given = _octets(given)
-    size, refusal = ctypes.c_uint64(), _Refusal()
-    room = _room(room_by, given) if out is None else _out(out, getattr(out, "shape", None), np.dtype(np.uint8))
+    size, refusal, of = ctypes.c_uint64(), _Refusal(), _at(given)
+    room = _room(room_by, given) if out is None else _into(out, getattr(out, "shape", None), _UINT8, (given, of))[0]
     while True:
-        into, of = _apart(room, given)
-        fault = call(*before, of, given.size, into, room.size, ctypes.addressof(size), ctypes.addressof(refusal))
+        fault = call(*before, of, given.size, _at(room), room.size, ctypes.addressof(size), ctypes.addressof(refusal))
         if fault == FAULTS.index(NoRoom) and out is None:
-            room = np.empty(size.value, np.uint8)
+            room = np.empty(size.value, _UINT8)
             continue
         if fault == FAULTS.index(Refused):
             raise Refused(KINDS[refusal.kind], refusal.offset)
@@ -761,16 +840,16 @@ def legacy_channel(frames: Octets, seed: int = 42, noise: int = 0) -> bytes:
 
 def split(rate: Rate, bits: np.ndarray) -> tuple[np.ndarray, np.ndarray]:
     """Scrambled bits shared out among the encoders: bool, two arrays, the second empty with one encoder (clause 20.3.11.5)."""
-    bits, share = _given(bits, np.bool_), -(-np.size(bits) // rate.encoders)
-    first, second = np.empty(share, np.bool_), np.empty((rate.encoders - 1) * share, np.bool_)
+    bits, share = _given(bits, _BOOL), -(-np.size(bits) // rate.encoders)
+    first, second = np.empty(share, _BOOL), np.empty((rate.encoders - 1) * share, _BOOL)
     _check(_split(*_rate(rate), _at(bits), bits.size, _at(first), first.size, _at(second), second.size))
     return first, second
 
 
 def join(rate: Rate, first: np.ndarray, second: np.ndarray = ()) -> np.ndarray:
     """The bits of the encoders put together again, which undoes ``split``: bool, shape (n,)."""
-    first, second = _given(first, np.bool_), _given(np.zeros(0, np.bool_) if len(second) == 0 else second, np.bool_)
-    bits = np.empty(rate.encoders * first.size, np.bool_)
+    first, second = _given(first, _BOOL), _given(np.zeros(0, _BOOL) if len(second) == 0 else second, _BOOL)
+    bits = np.empty(rate.encoders * first.size, _BOOL)
     _check(_join(*_rate(rate), _at(first), first.size, _at(second), second.size, _at(bits), bits.size))
     return bits
 
@@ -786,29 +865,22 @@ def legacy_decode_frame(rate: int, labels: np.ndarray, length: int) -> tuple[byt
     length : int
         The number of octets, 1 to 4095.
     """
-    labels, octets, differences = _given(labels, np.uint8), np.empty(_ranged("the length", length, 4095), np.uint8), ctypes.c_uint32()
+    labels, octets, differences = _given(labels, _UINT8), np.empty(_ranged("the length", length, 4095), _UINT8), ctypes.c_uint32()
     _check(_legacy_decode_frame(_legacy_rate(rate), _at(labels), labels.size, _at(octets), octets.size, ctypes.addressof(differences)))
     return octets.tobytes(), differences.value
-
-
-def _job(channel: np.ndarray, received: np.ndarray) -> tuple[np.ndarray, np.ndarray]:
-    channel, received = _given(channel, CHANNEL), _samples(received)
-    if channel.size != 1 or received.size != 1:
-        raise BadLength("a job has one channel and what was received on it")
-    return channel, received
 
 
 def certify_job(rate: Rate, channel: np.ndarray, received: np.ndarray) -> tuple[np.void, np.ndarray]:
     """The certificate of one data subcarrier: its hit, as ``nearest`` has it, and the marks that show it: bool, True where a level is open."""
     channel, received = _job(channel, received)
-    found, marks, size = np.empty((), HIT), np.empty(256, np.bool_), ctypes.c_uint64()
+    found, marks, size = np.empty(1, HIT), np.empty(256, _BOOL), ctypes.c_uint64()
     while True:
         at = _at(channel), _at(received), _at(found), _at(marks)
         fault = _certify_job(*_rate(rate), *at, marks.size, ctypes.addressof(size))
         if fault != FAULTS.index(NoRoom):
             _check(fault)
-            return found[()], marks[: size.value].copy()
-        marks = np.empty(size.value, np.bool_)
+            return found[0], marks[: size.value].copy()
+        marks = np.empty(size.value, _BOOL)
 
 
 def check_job(rate: Rate, channel: np.ndarray, received: np.ndarray, hit: np.ndarray, marks: np.ndarray) -> None:
@@ -817,7 +889,7 @@ def check_job(rate: Rate, channel: np.ndarray, received: np.ndarray, hit: np.nda
     The job is that of ``nearest``; ``hit`` is HIT, one element, and ``marks`` bool of shape (n,), as ``certify_job`` gives them.
     """
     channel, received = _job(channel, received)
-    hit, marks, flaw = _given(hit, HIT), _given(marks, np.bool_), _Flaw()
+    hit, marks, flaw = _given(hit, HIT), _given(marks, _BOOL), _Flaw()
     if hit.size != 1:
         raise BadLength("a certificate has one hit")
     at = _at(channel), _at(received), _at(hit), _at(marks)
