@@ -20,11 +20,10 @@ use Rattle.ht_rate.specs.Rates.{streams_of}
 use Rattle.ht_rate.specs.declared.kinds.Carrier.{Carrier}
 use Rattle.ht_rate.specs.declared.kinds.Carrier.TheVariants.{Data, Pilot}
 use Rattle.ht_rate.specs.declared.rates.Rate.{Rate}
-use Rattle.ht_rounding.specs.Columns.{AreColumns, HasSample, HasSamples, IsLikePlain}
+use Rattle.ht_rounding.specs.Columns.{AreColumns, ColumnsView, HasSample, HasSamples, IsLikePlain}
 use Rattle.ht_rounding.specs.InLanes.{axes_of}
 use Rattle.ht_rounding.specs.Labels.{IsLabelled}
 use Rattle.ht_rounding.specs.Loading.{IsWord, no_job}
-use Rattle.ht_rounding.specs.declared.columns.Columns.{Columns}
 use Rattle.ht_rounding.specs.declared.eight.Labelled.{Labelled}
 use Rattle.ht_rounding.specs.declared.levels.Levels.{Levels}
 use Rattle.ht_rounding.specs.declared.levels.Levels.TheVariants.{One, Two, Four, Eight}
@@ -96,7 +95,7 @@ none-heard re im k row streams ls ys less size = record {
 }
 
 -- one template more
-pub columns-more : (head : FrameHead) (templates : List Template) (at : ℕ) (t : Template) (was now : Columns) → at < length templates
+pub columns-more : (head : FrameHead) (templates : List Template) (at : ℕ) (t : Template) (was now : ColumnsView) → at < length templates
     → t ≡ get_or templates at t → HasColumns head (take at templates) was → now.modulation ≡ was.modulation → now.streams ≡ was.streams
     → ((jobs : List JobView) → AreColumns jobs was → AreColumns (jobs ++ t.job ∷ []) now) → HasColumns head (take (at + 1) templates) now
 columns-more head templates at t was now lt is has em es more =
@@ -140,7 +139,7 @@ unfolding grid_at
 grid_same rate symbol carrier n i q some e = grid_kind rate symbol n i q (carrier_of rate carrier) some e
 
 -- a job is like its template, where a lane can answer that
-like_template : (head : FrameHead) (t : Template) (columns : Columns) (symbol number at : ℕ) (octets : List ℕ) → IsTemplate head t
+like_template : (head : FrameHead) (t : Template) (columns : ColumnsView) (symbol number at : ℕ) (octets : List ℕ) → IsTemplate head t
     → IsLikePlain columns t.job (job_at head symbol number (present_of t.job) octets at)
 unfolding job_at
 like_template head t columns symbol number at octets is plain =
@@ -165,7 +164,7 @@ template_at head (t ∷ ts) (suc n) d each lt =
     (found.0, record { is = found.1.is; job = found.1.job; present = found.1.present })
 
 -- lanes that label each job like a template, on which this was heard, label the jobs of a symbol
-pub symbol_labelled : (head : FrameHead) (templates : List Template) (columns : Columns) (samples : SampleLanes) (label : Point → ℕ) (r : Labelled)
+pub symbol_labelled : (head : FrameHead) (templates : List Template) (columns : ColumnsView) (samples : SampleLanes) (label : Point → ℕ) (r : Labelled)
     (k at j symbol number : ℕ) (octets : List ℕ) (d : Present) → AreTemplates head templates → HasColumns head templates columns
     → k + 8 ≤ length (presents_of templates) → j < 8
     → ((ls : List Leg) → length ls ≡ streams_of head.rate

@@ -9,16 +9,13 @@ use Rattle.ht_metric.specs.Jobs.{JobView}
 use Rattle.ht_metric.specs.Rows.{Leg, Row, no_leg, no_row, no_tap}
 use Rattle.ht_pam.specs.Grids.{IsGrid}
 use Rattle.ht_pam.specs.declared.axes.Axes.{Axes}
-use Rattle.ht_rounding.specs.declared.columns.Columns.{Columns}
-use Rattle.ht_rounding.specs.declared.columns.EntryColumns.{EntryColumns}
-use Rattle.ht_rounding.specs.declared.columns.RowColumns.{RowColumns}
 use Rattle.ht_rounding.specs.declared.levels.Levels.{Levels}
 use Rattle.ht_rounding.specs.declared.loading.Part.TheVariants.{EntryRe, EntryIm}
 use Rattle.ht_rounding.specs.declared.rows.Parts.{Parts}
 use Rattle.ht_rounding.specs.declared.streams.Channel.{Channel}
 use Rattle.ht_rounding.specs.declared.streams.RowLanes.{RowLanes}
 use Rattle.ht_rounding.specs.declared.streams.SampleLanes.{SampleLanes}
-use Rattle.ht_rounding.specs.Columns.{AreColumns, AreEntries, AreRows, ArePlain, EntriesReach, HasEach}
+use Rattle.ht_rounding.specs.Columns.{AreColumns, AreEntries, AreRows, ArePlain, ColumnsView, EntriesReach, EntryWords, HasEach, RowWords}
 use Rattle.ht_rounding.specs.Columns.{HasLeg, HasLegs, HasSample, HasSamples, IsLike, IsLikePlain, Reaches, RowReaches}
 use Rattle.ht_rounding.specs.InLanes.{IsInLane}
 use Rattle.ht_rounding.specs.Labels.{i_levels, q_levels}
@@ -118,9 +115,9 @@ plain-like i q n other job like plain =
     }
 
 -- what lanes have of the job that has so many others before it they have of each job like it
-pub job-in-lane : (columns : Columns) (streams : ℕ) (channel : Channel) (samples : SampleLanes) (at k : ℕ) (jobs : List JobView) (job : JobView) (n : ℕ)
+pub job-in-lane : (columns : ColumnsView) (streams : ℕ) (channel : Channel) (samples : SampleLanes) (at k : ℕ) (jobs : List JobView) (job : JobView) (n : ℕ)
     → streams ≡ columns.streams → AreColumns jobs columns → at + 8 ≤ length jobs → k < 8 → IsLikePlain columns (slice_index_or jobs (at + k) no_job) job
-    → HasSamples samples k job.system → n ≡ slice_index columns.plain.items (at + k) → HasLegs channel k (slice_index_or jobs (at + k) no_job).system → 0 < n
+    → HasSamples samples k job.system → n ≡ slice_index columns.plain (at + k) → HasLegs channel k (slice_index_or jobs (at + k) no_job).system → 0 < n
     → IsInLane (i_levels columns.modulation) (q_levels columns.modulation) channel samples k streams job
 job-in-lane columns streams channel samples at k jobs job n e are room lt like heard word all some =
     let other = slice_index_or jobs (at + k) no_job in
@@ -143,11 +140,11 @@ plain-more i q a b streams jobs was now job n size ea eb can is are =
     subst (λ (column : List ℕ). ArePlain i q streams (jobs ++ job ∷ []) column) (sym is) (each-more holds jobs was job n (size, plain) are)
 
 -- columns reach as far as there are jobs
-entries-reach : (streams number m n : ℕ) (jobs : List JobView) (entries : EntryColumns) → n ≤ length jobs → AreEntries streams number m jobs entries
+entries-reach : (streams number m n : ℕ) (jobs : List JobView) (entries : EntryWords) → n ≤ length jobs → AreEntries streams number m jobs entries
     → number + 1 + m ≤ streams → EntriesReach n entries
 entries-reach streams number m n jobs entries le are has = record { re = omega (arith, le, (are has).0.count); im = omega (arith, le, (are has).1.count) }
 
-row-reaches : (streams number n : ℕ) (jobs : List JobView) (rows : RowColumns) → n ≤ length jobs → AreRows streams number jobs rows
+row-reaches : (streams number n : ℕ) (jobs : List JobView) (rows : RowWords) → n ≤ length jobs → AreRows streams number jobs rows
     → RowReaches streams number n rows
 row-reaches streams number n jobs rows le are = record {
   diagonal = λ has. omega (arith, le, (are.diagonal has).count);
@@ -156,7 +153,7 @@ row-reaches streams number n jobs rows le are = record {
   third = λ has. entries-reach streams number 2 n jobs rows.third le are.third (omega (arith, has));
 }
 
-pub reaches : (n : ℕ) (jobs : List JobView) (columns : Columns) → n ≤ length jobs → AreColumns jobs columns → Reaches n columns
+pub reaches : (n : ℕ) (jobs : List JobView) (columns : ColumnsView) → n ≤ length jobs → AreColumns jobs columns → Reaches n columns
 reaches n jobs columns le are = record {
   some = are.some;
   few = are.few;

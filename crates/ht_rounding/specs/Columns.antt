@@ -3,9 +3,10 @@ use Rattle.std.specs.Prelude.{◌≡◌, ℕ, ◌+◌, ◌-◌, ◌<◌, ◌≤�
 use Rattle.ht_metric.specs.Arrays.{legs}
 use Rattle.ht_metric.specs.Jobs.{JobView}
 use Rattle.ht_metric.specs.Rows.{Row, no_row}
-use Rattle.ht_rounding.specs.declared.columns.Columns.{Columns}
+use Rattle.ht_rate.specs.declared.kinds.Modulation.{Modulation}
 use Rattle.ht_rounding.specs.declared.columns.EntryColumns.{EntryColumns}
 use Rattle.ht_rounding.specs.declared.columns.RowColumns.{RowColumns}
+use Rattle.ht_rounding.specs.declared.columns.Table.{Table}
 use Rattle.ht_rounding.specs.declared.levels.Levels.{Levels}
 use Rattle.ht_rounding.specs.declared.loading.Part.{Part}
 use Rattle.ht_rounding.specs.declared.loading.Part.TheVariants.{Diagonal, SampleRe, SampleIm, EntryRe, EntryIm}
@@ -15,6 +16,46 @@ use Rattle.ht_rounding.specs.declared.streams.RowLanes.{RowLanes}
 use Rattle.ht_rounding.specs.declared.streams.SampleLanes.{SampleLanes}
 use Rattle.ht_rounding.specs.Labels.{i_levels, q_levels}
 use Rattle.ht_rounding.specs.Loading.{IsPartOf, IsPlain, no_job}
+
+-- the words of both parts of an entry, one for each subcarrier
+pub record EntryWords : Type 0 where
+  pub re : List ℕ
+  pub im : List ℕ
+
+-- the words of a row
+pub record RowWords : Type 0 where
+  pub diagonal : List ℕ
+  pub next : EntryWords
+  pub second : EntryWords
+  pub third : EntryWords
+
+-- the columns of a frame of this modulation and so many streams; `plain` is positive where a lane can answer
+pub record ColumnsView : Type 0 where
+  pub modulation : Modulation
+  pub streams : ℕ
+  pub first : RowWords
+  pub second : RowWords
+  pub third : RowWords
+  pub fourth : RowWords
+  pub plain : List ℕ
+
+-- what stands in memory as columns
+abbrev pub entry_words : EntryColumns → EntryWords
+entry_words e = record { re = e.re.items; im = e.im.items }
+
+abbrev pub row_words : RowColumns → RowWords
+row_words r = record { diagonal = r.diagonal.items; next = entry_words r.next; second = entry_words r.second; third = entry_words r.third }
+
+abbrev pub words_of : Table → ColumnsView
+words_of t = record {
+  modulation = t.modulation;
+  streams = t.streams;
+  first = row_words t.first;
+  second = row_words t.second;
+  third = row_words t.third;
+  fourth = row_words t.fourth;
+  plain = t.plain.items;
+}
 
 -- a column has a word for each of these jobs, of which this holds
 pub record HasEach (holds : JobView → ℕ → Type 0) (jobs : List JobView) (column : List ℕ) : Type 0 where
@@ -26,13 +67,13 @@ abbrev pub IsColumn : Part → ℕ → List JobView → List ℕ → Type 0
 IsColumn part number jobs column = HasEach (λ job n. IsPartOf part number job.system n) jobs column
 
 -- columns have this entry of row `number`, where there are so many streams
-abbrev pub AreEntries : ℕ → ℕ → ℕ → List JobView → EntryColumns → Type 0
+abbrev pub AreEntries : ℕ → ℕ → ℕ → List JobView → EntryWords → Type 0
 AreEntries streams number m jobs entries = number + 1 + m ≤ streams
-    → IsColumn (EntryRe m) number jobs entries.re.items × IsColumn (EntryIm m) number jobs entries.im.items
+    → IsColumn (EntryRe m) number jobs entries.re × IsColumn (EntryIm m) number jobs entries.im
 
 -- columns have row `number` of jobs of so many streams
-pub record AreRows (streams number : ℕ) (jobs : List JobView) (rows : RowColumns) : Type 0 where
-  pub diagonal : number ≤ streams → IsColumn Diagonal number jobs rows.diagonal.items
+pub record AreRows (streams number : ℕ) (jobs : List JobView) (rows : RowWords) : Type 0 where
+  pub diagonal : number ≤ streams → IsColumn Diagonal number jobs rows.diagonal
   pub next : AreEntries streams number 0 jobs rows.next
   pub second : AreEntries streams number 1 jobs rows.second
   pub third : AreEntries streams number 2 jobs rows.third
@@ -42,34 +83,34 @@ abbrev pub ArePlain : Levels → Levels → ℕ → List JobView → List ℕ �
 ArePlain i q streams jobs column = HasEach (λ job n. (length job.system ≡ streams) × (0 < n → IsPlain i q streams job)) jobs column
 
 -- columns have the channels of these jobs, each of another subcarrier
-pub record AreColumns (jobs : List JobView) (columns : Columns) : Type 0 where
+pub record AreColumns (jobs : List JobView) (columns : ColumnsView) : Type 0 where
   pub some : 1 ≤ columns.streams
   pub few : columns.streams ≤ 4
   pub first : AreRows columns.streams 1 jobs columns.first
   pub second : AreRows columns.streams 2 jobs columns.second
   pub third : AreRows columns.streams 3 jobs columns.third
   pub fourth : AreRows columns.streams 4 jobs columns.fourth
-  pub plain : ArePlain (i_levels columns.modulation) (q_levels columns.modulation) columns.streams jobs columns.plain.items
+  pub plain : ArePlain (i_levels columns.modulation) (q_levels columns.modulation) columns.streams jobs columns.plain
 
 -- columns have at least so many words
-pub record EntriesReach (n : ℕ) (entries : EntryColumns) : Type 0 where
-  pub re : n ≤ length entries.re.items
-  pub im : n ≤ length entries.im.items
+pub record EntriesReach (n : ℕ) (entries : EntryWords) : Type 0 where
+  pub re : n ≤ length entries.re
+  pub im : n ≤ length entries.im
 
-pub record RowReaches (streams number n : ℕ) (rows : RowColumns) : Type 0 where
-  pub diagonal : number ≤ streams → n ≤ length rows.diagonal.items
+pub record RowReaches (streams number n : ℕ) (rows : RowWords) : Type 0 where
+  pub diagonal : number ≤ streams → n ≤ length rows.diagonal
   pub next : number + 1 ≤ streams → EntriesReach n rows.next
   pub second : number + 2 ≤ streams → EntriesReach n rows.second
   pub third : number + 3 ≤ streams → EntriesReach n rows.third
 
-pub record Reaches (n : ℕ) (columns : Columns) : Type 0 where
+pub record Reaches (n : ℕ) (columns : ColumnsView) : Type 0 where
   pub some : 1 ≤ columns.streams
   pub few : columns.streams ≤ 4
   pub first : RowReaches columns.streams 1 n columns.first
   pub second : RowReaches columns.streams 2 n columns.second
   pub third : RowReaches columns.streams 3 n columns.third
   pub fourth : RowReaches columns.streams 4 n columns.fourth
-  pub plain : n ≤ length columns.plain.items
+  pub plain : n ≤ length columns.plain
 
 -- lane k has row `number` of these without its sample, where they have it
 pub record HasLeg (lanes : RowLanes) (k number : ℕ) (rows : List Row) : Type 0 where
@@ -104,6 +145,6 @@ pub record IsLike (other job : JobView) : Type 0 where
   pub channel : legs job.system ≡ legs other.system
 
 -- the same where a lane can answer that one
-abbrev pub IsLikePlain : Columns → JobView → JobView → Type 0
+abbrev pub IsLikePlain : ColumnsView → JobView → JobView → Type 0
 IsLikePlain columns other job =
     IsPlain (i_levels columns.modulation) (q_levels columns.modulation) columns.streams other → IsLike other job

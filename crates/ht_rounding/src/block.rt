@@ -248,7 +248,8 @@ fn find_each<L: Ledger>(jobs: &[Job], founds: &mut [Found], steps: &mut Steps<L>
     }
 }
 
-/// Finds the first nearest vectors of eight jobs, each with its squared distance, which is below 2^66.
+/// Finds the first nearest vectors of eight jobs, no more and no fewer, each with its squared distance, which is below 2^66.
+/// `founds` has eight places, too.
 ///
 /// Where the jobs have the same number of streams, and all points of the first job's constellations are allowed on each stream,
 /// those that have the same grid are rounded in lanes. Jobs that a lane isn't sure of, and all others, go to the search.

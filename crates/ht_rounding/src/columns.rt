@@ -4,7 +4,7 @@ ghost use Rattle.ht_map.specs.Gray.{label_of};
 ghost use Rattle.ht_metric.specs.Jobs.{JobView};
 ghost use Rattle.ht_rounding.specs.declared.loading.Part.TheVariants.{Diagonal, EntryRe, EntryIm};
 ghost use Rattle.ht_rounding.specs.Columns.{AreColumns, AreEntries, AreRows, EntriesReach, HasLeg, HasLegs, HasSamples, IsColumn};
-ghost use Rattle.ht_rounding.specs.Columns.{IsLikePlain, Reaches, RowReaches};
+ghost use Rattle.ht_rounding.specs.Columns.{IsLikePlain, Reaches, RowReaches, entry_words, row_words, words_of};
 ghost use Rattle.ht_rounding.specs.InLanes.{IsSmall};
 ghost use Rattle.ht_rounding.specs.Labels.{HasJob, IsLabelled, IsUnsure, i_levels, q_levels};
 ghost use Rattle.ht_rounding.specs.Loading.{no_job};
@@ -18,6 +18,7 @@ use crate::words::lesser;
 use ht_metric::Job;
 use ht_rate::Modulation;
 use std::alloc::{AllocError, Global};
+use std::marker::Model;
 use std::simd::prelude::*;
 
 /// The parts of an entry on each subcarrier.
@@ -36,19 +37,16 @@ pub(crate) struct RowColumns {
     pub third: EntryColumns,
 }
 
-/// The channels of a frame's subcarriers: each part of each row of the triangles in a column of words, one for each subcarrier.
-///
-/// Symbols of the frame share it: with what was received on eight subcarriers that follow one another, it says the labels of
-/// what was sent.
+// The channels of a frame's subcarriers: each part of each row of the triangles in a column of words, one for each subcarrier.
 #[derive(Debug, Drop)]
-pub struct Columns {
-    modulation: Modulation,
-    streams: u8,
-    first: RowColumns,
-    second: RowColumns,
-    third: RowColumns,
-    fourth: RowColumns,
-    plain: Vec<u32>,
+pub(crate) struct Table {
+    pub modulation: Modulation,
+    pub streams: u8,
+    pub first: RowColumns,
+    pub second: RowColumns,
+    pub third: RowColumns,
+    pub fourth: RowColumns,
+    pub plain: Vec<u32>,
 }
 
 // A column of nothing, with memory for so many words where there are at least `least` streams.
@@ -77,7 +75,7 @@ fn entry_columns(
 // The columns of row `row`, counted from 1, of no jobs.
 fn row_columns(alloc: Global, count: usize, streams: u8, row: u8) -> Result<RowColumns, AllocError>
     requires { row ≤ 4 }
-    ensures { IfOk result (λ rows. AreRows streams row [] rows) }
+    ensures { IfOk result (λ rows. AreRows streams row [] (row_words rows)) }
 {
     Ok(RowColumns {
         diagonal: column(alloc, count, streams, row)?,
@@ -115,7 +113,8 @@ fn push_entry(
     requires row { 1 ≤ row }
     requires most { row ≤ 4 }
     requires few { at < 3 }
-    ensures { OnOk result ((jobs : List JobView) → AreEntries streams row at jobs entries.old → AreEntries streams row at (jobs ++ job.now ∷ []) entries.new) }
+    ensures { OnOk result ((jobs : List JobView) → AreEntries streams row at jobs (entry_words entries.old)
+        → AreEntries streams row at (jobs ++ job.now ∷ []) (entry_words entries.new)) }
 {
     if streams < row + 1 + at {
         return Ok(());
@@ -130,7 +129,8 @@ fn push_row(rows: &mut RowColumns, job: &Job, streams: u8, row: u8) -> Result<()
     requires streams { streams ≡ length job.now.system }
     requires row { 1 ≤ row }
     requires most { row ≤ 4 }
-    ensures { OnOk result ((jobs : List JobView) → AreRows streams row jobs rows.old → AreRows streams row (jobs ++ job.now ∷ []) rows.new) }
+    ensures { OnOk result ((jobs : List JobView) → AreRows streams row jobs (row_words rows.old)
+        → AreRows streams row (jobs ++ job.now ∷ []) (row_words rows.new)) }
 {
     if streams < row {
         return Ok(());
@@ -158,7 +158,7 @@ fn part_lanes(column: &[u32], streams: u8, least: u8, at: usize) -> u32x8
 // than have the entry.
 #[inline(always)]
 fn entry_lanes(entries: &EntryColumns, streams: u8, least: u8, at: usize) -> Parts
-    requires { least ≤ streams → EntriesReach (at + 8) entries.now }
+    requires { least ≤ streams → EntriesReach (at + 8) (entry_words entries.now) }
     ensures re { least ≤ streams → (k : ℕ) → k < 8 → slice_index result.re k ≡ slice_index entries.now.re.items (at + k) }
     ensures im { least ≤ streams → (k : ℕ) → k < 8 → slice_index result.im k ≡ slice_index entries.now.im.items (at + k) }
 {
@@ -172,9 +172,9 @@ fn entry_lanes(entries: &EntryColumns, streams: u8, least: u8, at: usize) -> Par
 #[inline(always)]
 fn row_lanes(rows: &RowColumns, streams: u8, row: u8, at: usize) -> RowLanes
     requires row { row ≤ 4 }
-    requires reach { RowReaches streams row (at + 8) rows.now }
+    requires reach { RowReaches streams row (at + 8) (row_words rows.now) }
     ensures small { AreSmall result.diagonal }
-    ensures legs { (jobs : List JobView) (k : ℕ) → AreRows streams row jobs rows.now → at + 8 ≤ length jobs → k < 8
+    ensures legs { (jobs : List JobView) (k : ℕ) → AreRows streams row jobs (row_words rows.now) → at + 8 ≤ length jobs → k < 8
         → length (slice_index_or jobs (at + k) no_job).system ≡ streams → HasLeg result k row (slice_index_or jobs (at + k) no_job).system }
 {
     let diagonal = part_lanes(&rows.diagonal, streams, row, at);
@@ -188,67 +188,144 @@ fn row_lanes(rows: &RowColumns, streams: u8, row: u8, at: usize) -> RowLanes
 
 // The channels of eight subcarriers.
 #[inline(always)]
-fn channel_lanes(columns: &Columns, streams: u8, at: usize) -> Channel
-    requires streams { streams ≡ columns.now.streams }
-    requires reach { Reaches (at + 8) columns.now }
+fn channel_lanes(table: &Table, streams: u8, at: usize) -> Channel
+    requires streams { streams ≡ table.now.streams }
+    requires reach { Reaches (at + 8) (words_of table.now) }
     ensures small { IsSmall result }
-    ensures legs { (jobs : List JobView) (k : ℕ) → AreColumns jobs columns.now → at + 8 ≤ length jobs → k < 8
+    ensures legs { (jobs : List JobView) (k : ℕ) → AreColumns jobs (words_of table.now) → at + 8 ≤ length jobs → k < 8
         → HasLegs result k (slice_index_or jobs (at + k) no_job).system }
 {
     Channel {
-        first: row_lanes(&columns.first, streams, 1, at),
-        second: row_lanes(&columns.second, streams, 2, at),
-        third: row_lanes(&columns.third, streams, 3, at),
-        fourth: row_lanes(&columns.fourth, streams, 4, at),
+        first: row_lanes(&table.first, streams, 1, at),
+        second: row_lanes(&table.second, streams, 2, at),
+        third: row_lanes(&table.third, streams, 3, at),
+        fourth: row_lanes(&table.fourth, streams, 4, at),
     }
 }
 
 // Eight subcarriers of so many streams, on which this was received.
 #[inline(always)]
-fn eight_of(columns: &Columns, streams: u8, at: usize, samples: &SampleLanes) -> Eight
-    requires streams { streams ≡ columns.now.streams }
-    requires reach { Reaches (at + 8) columns.now }
+fn eight_of(table: &Table, streams: u8, at: usize, samples: &SampleLanes) -> Eight
+    requires streams { streams ≡ table.now.streams }
+    requires reach { Reaches (at + 8) (words_of table.now) }
     ensures small { IsSmall result.channel }
-    ensures jobs { (jobs : List JobView) (k : ℕ) (job : JobView) → AreColumns jobs columns.now → at + 8 ≤ length jobs → k < 8
-        → IsLikePlain columns.now (slice_index_or jobs (at + k) no_job) job → HasSamples samples.now k job.system
-        → HasJob (i_levels columns.now.modulation) (q_levels columns.now.modulation) result streams k job }
+    ensures jobs { (jobs : List JobView) (k : ℕ) (job : JobView) → AreColumns jobs (words_of table.now) → at + 8 ≤ length jobs → k < 8
+        → IsLikePlain (words_of table.now) (slice_index_or jobs (at + k) no_job) job → HasSamples samples.now k job.system
+        → HasJob (i_levels table.now.modulation) (q_levels table.now.modulation) result streams k job }
 {
     Eight {
-        channel: channel_lanes(columns, streams, at),
+        channel: channel_lanes(table, streams, at),
         samples: *samples,
-        plain: part_lanes(&columns.plain, 1, 0, at),
+        plain: part_lanes(&table.plain, 1, 0, at),
     }
 }
 
 // The labels of eight subcarriers of so many streams.
 #[inline(always)]
-fn labels_of(columns: &Columns, streams: u8, at: usize, samples: &SampleLanes) -> Labelled
-    requires streams { streams ≡ columns.now.streams }
-    requires reach { Reaches (at + 8) columns.now }
-    ensures streams { result.streams ≡ columns.now.streams }
-    ensures labels { (jobs : List JobView) (k : ℕ) (job : JobView) → AreColumns jobs columns.now → at + 8 ≤ length jobs → k < 8
-        → IsLikePlain columns.now (slice_index_or jobs (at + k) no_job) job → HasSamples samples.now k job.system → 0 < slice_index result.sure k
-        → IsLabelled (λ p. unwrap_or (label_of columns.now.modulation p) 0) result k job }
+fn labels_of(table: &Table, streams: u8, at: usize, samples: &SampleLanes) -> Labelled
+    requires streams { streams ≡ table.now.streams }
+    requires reach { Reaches (at + 8) (words_of table.now) }
+    ensures streams { result.streams ≡ table.now.streams }
+    ensures labels { (jobs : List JobView) (k : ℕ) (job : JobView) → AreColumns jobs (words_of table.now) → at + 8 ≤ length jobs → k < 8
+        → IsLikePlain (words_of table.now) (slice_index_or jobs (at + k) no_job) job → HasSamples samples.now k job.system → 0 < slice_index result.sure k
+        → IsLabelled (λ p. unwrap_or (label_of table.now.modulation p) 0) result k job }
 {
-    let eight = eight_of(columns, streams, at, samples);
-    label_lanes(columns.modulation, streams, &eight)
+    let eight = eight_of(table, streams, at, samples);
+    label_lanes(table.modulation, streams, &eight)
 }
 
 // The labels of eight subcarriers, from the one on that has `at` others before it, on which this was received. There is code of
 // its own for each number of streams.
-fn labels_by(columns: &Columns, at: usize, samples: &SampleLanes) -> Labelled
-    requires { Reaches (at + 8) columns.now }
-    ensures streams { result.streams ≡ columns.now.streams }
-    ensures labels { (jobs : List JobView) (k : ℕ) (job : JobView) → AreColumns jobs columns.now → at + 8 ≤ length jobs → k < 8
-        → IsLikePlain columns.now (slice_index_or jobs (at + k) no_job) job → HasSamples samples.now k job.system → 0 < slice_index result.sure k
-        → IsLabelled (λ p. unwrap_or (label_of columns.now.modulation p) 0) result k job }
+fn labels_by(table: &Table, at: usize, samples: &SampleLanes) -> Labelled
+    requires { Reaches (at + 8) (words_of table.now) }
+    ensures streams { result.streams ≡ table.now.streams }
+    ensures labels { (jobs : List JobView) (k : ℕ) (job : JobView) → AreColumns jobs (words_of table.now) → at + 8 ≤ length jobs → k < 8
+        → IsLikePlain (words_of table.now) (slice_index_or jobs (at + k) no_job) job → HasSamples samples.now k job.system → 0 < slice_index result.sure k
+        → IsLabelled (λ p. unwrap_or (label_of table.now.modulation p) 0) result k job }
 {
-    match columns.streams {
-        1 => labels_of(columns, 1, at, samples),
-        2 => labels_of(columns, 2, at, samples),
-        3 => labels_of(columns, 3, at, samples),
-        _ => labels_of(columns, 4, at, samples),
+    match table.streams {
+        1 => labels_of(table, 1, at, samples),
+        2 => labels_of(table, 2, at, samples),
+        3 => labels_of(table, 3, at, samples),
+        _ => labels_of(table, 4, at, samples),
     }
+}
+
+impl Table {
+    // A table of no subcarrier.
+    fn new(
+        alloc: Global,
+        modulation: Modulation,
+        streams: u8,
+        count: usize,
+    ) -> Result<Table, AllocError>
+        requires some { 1 ≤ streams }
+        requires few { streams ≤ 4 }
+        ensures modulation { IfOk result (λ table. table.modulation ≡ modulation) }
+        ensures streams { IfOk result (λ table. table.streams ≡ streams) }
+        ensures none { IfOk result (λ table. AreColumns [] (words_of table)) }
+    {
+        Ok(Table {
+            modulation,
+            streams,
+            first: row_columns(alloc, count, streams, 1)?,
+            second: row_columns(alloc, count, streams, 2)?,
+            third: row_columns(alloc, count, streams, 3)?,
+            fourth: row_columns(alloc, count, streams, 4)?,
+            plain: Vec::with_capacity(alloc, count)?,
+        })
+    }
+
+    // Puts the channel of one more subcarrier behind the others.
+    fn push(&mut self, job: &Job) -> Result<(), AllocError>
+        requires { length job.now.system ≡ self.old.streams }
+        ensures modulation { self.new.modulation ≡ self.old.modulation }
+        ensures streams { self.new.streams ≡ self.old.streams }
+        ensures more { OnOk result ((jobs : List JobView) → AreColumns jobs (words_of self.old)
+            → AreColumns (jobs ++ job.now ∷ []) (words_of self.new)) }
+    {
+        let streams = self.streams;
+        let (i, q) = levels_by(self.modulation);
+        push_row(&mut self.first, job, streams, 1)?;
+        push_row(&mut self.second, job, streams, 2)?;
+        push_row(&mut self.third, job, streams, 3)?;
+        push_row(&mut self.fourth, job, streams, 4)?;
+        self.plain.push(plainness(i, q, streams, job))?;
+        Ok(())
+    }
+
+    // The labels of what was sent on eight subcarriers, in the lanes that are sure; in none where the modulation is another one.
+    fn labels(&self, modulation: Modulation, at: usize, samples: &SampleLanes) -> Labelled
+        requires { Reaches (at + 8) (words_of self.now) }
+        ensures some { 1 ≤ result.streams }
+        ensures few { result.streams ≤ 4 }
+        ensures labels { (jobs : List JobView) (k : ℕ) (job : JobView) → AreColumns jobs (words_of self.now) → at + 8 ≤ length jobs → k < 8
+            → IsLikePlain (words_of self.now) (slice_index_or jobs (at + k) no_job) job → HasSamples samples.now k job.system → 0 < slice_index result.sure k
+            → IsLabelled (λ p. unwrap_or (label_of modulation p) 0) result k job }
+        ensures other { self.now.modulation ≢ modulation → IsUnsure result }
+    {
+        if self.modulation != modulation {
+            return unsure(self.streams);
+        }
+        labels_by(self, at, samples)
+    }
+}
+
+/// The channels of a frame's subcarriers: each part of each row of the triangles in a column of words, one for each subcarrier.
+///
+/// Symbols of the frame share it: with what was received on eight subcarriers that follow one another, it says the labels of
+/// what was sent.
+#[derive(Debug, Drop)]
+pub struct Columns {
+    table: Table,
+}
+
+impl Model for Columns {
+    ghost use Rattle.ht_rounding.specs.Columns.{ColumnsView, words_of};
+
+    ghost Value = { ColumnsView };
+
+    ghost view = { λ s. words_of s.table };
 }
 
 impl Columns {
@@ -266,32 +343,20 @@ impl Columns {
         ensures streams { IfOk result (λ columns. columns.streams ≡ streams) }
         ensures none { IfOk result (λ columns. AreColumns [] columns) }
     {
-        Ok(Columns {
-            modulation,
-            streams,
-            first: row_columns(alloc, count, streams, 1)?,
-            second: row_columns(alloc, count, streams, 2)?,
-            third: row_columns(alloc, count, streams, 3)?,
-            fourth: row_columns(alloc, count, streams, 4)?,
-            plain: Vec::with_capacity(alloc, count)?,
-        })
+        let table = Table::new(alloc, modulation, streams, count)?;
+        Ok(Columns { table })
     }
 
-    /// Puts the channel of one more subcarrier behind the others: that of any of its jobs. The only error is lack of memory.
+    /// Puts the channel of one more subcarrier behind the others: that of any of its jobs, which has as many streams as the
+    /// frame. The only error is lack of memory; the columns are then still of a frame of this modulation and so many streams,
+    /// but no clause says what they hold.
     pub fn push(&mut self, job: &Job) -> Result<(), AllocError>
         requires { length job.now.system ≡ self.old.streams }
-        ensures modulation { OnOk result (self.new.modulation ≡ self.old.modulation) }
-        ensures streams { OnOk result (self.new.streams ≡ self.old.streams) }
+        ensures modulation { self.new.modulation ≡ self.old.modulation }
+        ensures streams { self.new.streams ≡ self.old.streams }
         ensures more { OnOk result ((jobs : List JobView) → AreColumns jobs self.old → AreColumns (jobs ++ job.now ∷ []) self.new) }
     {
-        let streams = self.streams;
-        let (i, q) = levels_by(self.modulation);
-        push_row(&mut self.first, job, streams, 1)?;
-        push_row(&mut self.second, job, streams, 2)?;
-        push_row(&mut self.third, job, streams, 3)?;
-        push_row(&mut self.fourth, job, streams, 4)?;
-        self.plain.push(plainness(i, q, streams, job))?;
-        Ok(())
+        self.table.push(job)
     }
 
     /// The labels of what was sent on eight subcarriers, from the one on that has `at` others before it, and the squared
@@ -307,9 +372,6 @@ impl Columns {
             → IsLabelled (λ p. unwrap_or (label_of modulation p) 0) result k job }
         ensures other { self.now.modulation ≢ modulation → IsUnsure result }
     {
-        if self.modulation != modulation {
-            return unsure(self.streams);
-        }
-        labels_by(self, at, samples)
+        self.table.labels(modulation, at, samples)
     }
 }

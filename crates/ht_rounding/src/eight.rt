@@ -153,7 +153,8 @@ fn label_by_levels(i: Levels, q: Levels, streams: u8, eight: &Eight) -> Labelled
 }
 
 /// The labels of the first nearest vectors of eight jobs of one to four streams, and their squared distances, in the lanes
-/// that are sure (IEEE Std 802.11-2012, clause 20.3.11.9). A lane of which nothing is known may hold anything.
+/// that are sure (IEEE Std 802.11-2012, clause 20.3.11.9). Diagonals are below 2^16. A lane of which nothing is known may hold
+/// anything else.
 pub fn label_lanes(modulation: Modulation, streams: u8, eight: &Eight) -> Labelled
     requires small { IsSmall eight.now.channel }
     requires some { 1 ≤ streams }
@@ -275,7 +276,8 @@ pub(crate) fn unsure(streams: u8) -> Labelled
     }
 }
 
-/// The labels of the first nearest vectors of eight jobs of any kind, and their squared distances: lane k has those of job k.
+/// The labels of the first nearest vectors of eight jobs of any kind, no more and no fewer, and their squared distances: lane k
+/// has those of job k (IEEE Std 802.11-2012, clause 20.3.11.9).
 /// None is sure where the jobs don't all have the same number of streams; else the sure ones are among those whose jobs have all
 /// points of this modulation on each stream.
 pub fn label_eight(modulation: Modulation, jobs: &[Job]) -> Labelled

@@ -60,8 +60,8 @@ fn last_row(i: Levels, q: Levels, target: Parts, d: u32x8) -> Reached
     next_row(i, q, u32x8::splat(u32::MAX), u32x8::splat(0), target, d)
 }
 
-/// Eight jobs of one stream: where something is to spare in the end, the lane has the job's first nearest vector and its
-/// distance.
+/// Eight jobs of one stream, with diagonals below 2^16: where something is to spare in the end, the lane has the job's first
+/// nearest vector and its distance. All levels are allowed (IEEE Std 802.11-2012, clause 20.3.11.9).
 #[inline(always)]
 pub fn detect_one(i: Levels, q: Levels, channel: &Channel, samples: &SampleLanes) -> Reached
     requires { IsSmall channel.now }
@@ -80,7 +80,7 @@ pub struct Two {
     pub second: Reached,
 }
 
-/// Eight jobs of two streams.
+/// Eight jobs of two streams, with diagonals below 2^16: as [`detect_one`] for one.
 #[inline(always)]
 pub fn detect_two(i: Levels, q: Levels, channel: &Channel, samples: &SampleLanes) -> Two
     requires { IsSmall channel.now }
@@ -105,7 +105,7 @@ pub struct Three {
     pub third: Reached,
 }
 
-/// Eight jobs of three streams.
+/// Eight jobs of three streams, with diagonals below 2^16: as [`detect_one`] for one.
 #[inline(always)]
 pub fn detect_three(i: Levels, q: Levels, channel: &Channel, samples: &SampleLanes) -> Three
     requires { IsSmall channel.now }
@@ -140,7 +140,7 @@ pub struct Four {
     pub fourth: Reached,
 }
 
-/// Eight jobs of four streams.
+/// Eight jobs of four streams, with diagonals below 2^16: as [`detect_one`] for one.
 #[inline(always)]
 pub fn detect_four(i: Levels, q: Levels, channel: &Channel, samples: &SampleLanes) -> Four
     requires { IsSmall channel.now }

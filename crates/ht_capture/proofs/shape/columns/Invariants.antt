@@ -1,6 +1,5 @@
 use Rattle.std.proofs.Common.{◌≡◌, take}
 use Rattle.ht_rate.specs.Rates.{modulation_of, streams_of}
-use Rattle.ht_rounding.specs.Columns.{AreColumns}
 use Rattle.ht_capture.specs.InColumns.{HasColumns}
 use Rattle.ht_capture.proofs.shape.columns.Given as goal
 

@@ -1,5 +1,5 @@
 use Rattle.ht_rounding.proofs.InColumns.{plain-more}
-use Rattle.ht_rounding.proofs.columns.Columns.push.Goals as goal
+use Rattle.ht_rounding.proofs.columns.Table.push.Goals as goal
 
 pub returns-clause-more : goal.returns-clause-more
 returns-clause-more c jobs are = record {
