@@ -1,3 +1,4 @@
+mod Lanes
 mod Listed
 pub mod Widths
 pub mod Alike

@@ -7,6 +7,7 @@ ghost use Rattle.ht_inverse.specs.Received.{labels_in_frame};
 ghost use Rattle.ht_soft_rx.specs.Jobs.{weight_plan, weights_come_to};
 ghost use Rattle.ht_soft_rx.specs.Results.{result_of};
 
+use crate::near_kind::NearKind;
 use crate::soft_result::SoftResult;
 use crate::weighing::{push_weights, weights_of_job};
 use ht_capture::FrameHead;
@@ -128,7 +129,7 @@ impl Kind for Weights {
         let number = job.number();
         gate.enter(number);
         let distance = match carrier {
-            Carrier::Data(_) => push_weights(head, job, values),
+            Carrier::Data(_) => push_weights(head, job, None, values),
             Carrier::Pilot(_) => Ok(detect(job).distance),
         };
         gate.leave(number);
@@ -151,3 +152,18 @@ impl Kind for Weights {
 }
 
 impl TogetherKind for Weights {}
+
+impl NearKind for Weights {
+    fn find_near(
+        head: &FrameHead,
+        job: &Job,
+        carrier: Carrier,
+        least: Option<u64>,
+        values: &mut Vec<i32>,
+    ) -> Result<u128, AllocError> {
+        match carrier {
+            Carrier::Data(_) => push_weights(head, job, least, values),
+            Carrier::Pilot(_) => Ok(detect(job).distance),
+        }
+    }
+}

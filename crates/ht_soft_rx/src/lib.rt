@@ -11,8 +11,9 @@
 //! `specs/Texts.antt` is their text.
 //!
 //! [`Weights`] is the kind of these frames: of each job on a data subcarrier all weights are found by one search (`ht_weigh`),
-//! and kept by their places. `weight_fold` in `specs/Jobs.antt` defines what jobs give so one after another, and [`laws`] says
-//! that both definitions give the same results, for any octets.
+//! which begins with the least distance where lanes found it (`ht_rounding`), and kept by their places. `weight_fold` in
+//! `specs/Jobs.antt` defines what jobs give so one after another, and [`laws`] says that both definitions give the same
+//! results, for any octets.
 //!
 //! Take a frame at 20 MHz, MCS 0, of one octet, with the diagonal 10 and the sample 0 on each subcarrier. The distances of
 //! both halves of each bit are 100, so each bit weighs 0, and every input costs nothing. The first one, all zeros, has no
@@ -27,6 +28,8 @@
 mod kind;
 pub mod laws;
 mod line;
+mod near_kind;
+mod near_work;
 mod receiving;
 mod soft_result;
 mod weighing;

@@ -7,9 +7,10 @@ ghost use Rattle.ht_runs.specs.Formats.{filter};
 ghost use Rattle.ht_soft_rx.specs.Texts.{soft_lines_of, soft_rx_text};
 
 use crate::kind::Weights;
+use crate::near_work::NearWork;
 use ht_capture_blocks::CaptureReader;
 use ht_feed::Gate;
-use ht_frames::{BesideFrames, Frame, Frames, TallyWork, TextBook};
+use ht_frames::{BesideFrames, Frame, Frames, TextBook};
 use ht_io::{Sink, Source};
 use ht_receive::{put_end, receive, receive_alone};
 use ht_results::no_head;
@@ -42,7 +43,7 @@ pub fn receive_soft_alone<S: Source, K: Sink, G: Gate>(
     let reader = CaptureReader::new(alloc)?;
     let head = no_head();
     let under_way = Frame::<Weights>::new(alloc);
-    let work = TallyWork::<Weights, G>::new(alloc, gate);
+    let work = NearWork::new(alloc, gate);
     let mut book = TextBook::new(alloc, sink);
     let ended = receive_alone(
         alloc, reader, head, window, &work, source, under_way, &mut book,
@@ -79,7 +80,7 @@ pub fn receive_soft<R: Threads + Wait + Sync, S: Source, K: Sink, G: Gate + Sync
     let under_way = Frame::<Weights>::new(alloc);
     let frames = Frames::new(alloc);
     let work = BesideFrames {
-        work: TallyWork::<Weights, G>::new(alloc, gate),
+        work: NearWork::new(alloc, gate),
         frames: &frames,
     };
     let mut book = TextBook::new(alloc, sink);

@@ -1,11 +1,12 @@
 //! The weights of a job.
-ghost use Rattle.std.specs.Prelude.{◌≡◌, ◌+◌, ◌/◌, ◌%◌, ◌^◌, ◌<◌, ◌≤◌, ◌++◌, ℕ, pos, length, slice_index_or, IfOk, OnOk};
+ghost use Rattle.std.specs.Prelude.{◌≡◌, ◌+◌, ◌*◌, ◌/◌, ◌%◌, ◌^◌, ◌<◌, ◌≤◌, ◌++◌, ℕ, pos, length, replicate, slice_index_or, IfOk, IfSome, OnOk};
 ghost use Rattle.ht_rate.specs.Rates.{modulation_of};
 ghost use Rattle.ht_rate.specs.Schemes.{bits_of};
 ghost use Rattle.ht_map.specs.Constellation.{axes_of};
 ghost use Rattle.ht_metric.specs.Jobs.{near};
 ghost use Rattle.ht_soft.specs.Halves.{half_of};
 ghost use Rattle.ht_soft.specs.Weights.{weight_at};
+ghost use Rattle.ht_weigh.specs.Weights.{AreWeights};
 ghost use Rattle.ht_soft_rx.specs.Weights.{job_weights, weights_of_job};
 
 use ht_capture::FrameHead;
@@ -15,7 +16,7 @@ use ht_metric::Job;
 use ht_pam::Axes;
 use ht_rate::{Modulation, Rate};
 use ht_soft::{half_of_any, weight};
-use ht_weigh::weigh;
+use ht_weigh::{weigh, weigh_near};
 use std::alloc::AllocError;
 
 /// The number of the weights of a job.
@@ -85,10 +86,31 @@ fn all_points(rate: &Rate) -> Axes
     }
 }
 
+// Writes the weights of a job with the full grid of a modulation, and answers the squared distance of its first nearest vector,
+// which is `least` where that is known.
+#[inline(always)]
+fn weigh_full(modulation: Modulation, job: &Job, least: Option<u64>, weights: &mut [i32]) -> u128
+    requires full { job.now.grid ≡ replicate (length job.now.grid) (axes_of modulation) }
+    requires size { length weights.old ≡ length job.now.system * bits_of modulation }
+    requires least { IfSome least (λ d. d ≡ (near job.now).distance) }
+    ensures weights { AreWeights modulation job.now weights.new }
+    ensures distance { result ≡ (near job.now).distance }
+    ensures below { result < 2 ^ 66 }
+{
+    if let Some(least) = least {
+        let least = u128::from(least);
+        weigh_near(modulation, job, least, weights);
+        return least;
+    }
+    weigh(modulation, job, weights)
+}
+
 // Writes the weights of a job of a frame with this head, stream by stream and bit by bit, and answers the squared distance of
-// its first nearest vector. A job that has another grid than the frame's rate, as no capture has it, is weighed bit by bit.
-fn weigh_job(head: &FrameHead, job: &Job, weights: &mut [i32]) -> u128
-    requires { length weights.old ≡ weights_of_job head.now }
+// its first nearest vector, which is `least` where that is known. A job that has another grid than the frame's rate, as no capture
+// has it, is weighed bit by bit.
+fn weigh_job(head: &FrameHead, job: &Job, least: Option<u64>, weights: &mut [i32]) -> u128
+    requires size { length weights.old ≡ weights_of_job head.now }
+    requires least { IfSome least (λ d. d ≡ (near job.now).distance) }
     ensures weights { weights.new ≡ job_weights head.now job.now }
     ensures distance { result ≡ (near job.now).distance }
     ensures below { result < 2 ^ 66 }
@@ -96,7 +118,7 @@ fn weigh_job(head: &FrameHead, job: &Job, weights: &mut [i32]) -> u128
     let full = grid(&head.rate);
     let modulation = head.rate.modulation();
     if job.grid().same(&full) {
-        return weigh(modulation, job, weights);
+        return weigh_full(modulation, job, least, weights);
     }
     let all = all_points(&head.rate);
     weigh_bits(modulation, &all, job, weights);
@@ -104,17 +126,19 @@ fn weigh_job(head: &FrameHead, job: &Job, weights: &mut [i32]) -> u128
 }
 
 /// Adds the weights of a job of a frame with this head behind others, stream by stream and bit by bit, and answers the squared
-/// distance of its first nearest vector. The only error is lack of memory.
+/// distance of its first nearest vector, which is `least` where that is known. The only error is lack of memory.
 pub(crate) fn push_weights(
     head: &FrameHead,
     job: &Job,
+    least: Option<u64>,
     weights: &mut Vec<i32>,
 ) -> Result<u128, AllocError>
+    requires { IfSome least (λ d. d ≡ (near job.now).distance) }
     ensures distance { IfOk result (λ d. d ≡ (near job.now).distance) }
     ensures below { IfOk result (λ d. d < 2 ^ 66) }
     ensures pushed { OnOk result (weights.new.items ≡ weights.old.items ++ job_weights head.now job.now) }
 {
     let behind = weights.len();
     weights.resize(behind + usize::from(weights_of_job(head)), 0)?;
-    Ok(weigh_job(head, job, &mut weights[behind..]))
+    Ok(weigh_job(head, job, least, &mut weights[behind..]))
 }

@@ -45,7 +45,23 @@ pub fn weigh(modulation: Modulation, job: &Job, weights: &mut [i32]) -> u128
     weigh_by::<Brand>(modulation, job, weights, Blank::new(1))
 }
 
-// The same, with a counter of its own for the levels that are tried.
+/// Writes the same weights of a job whose nearest vectors are known to be at the squared distance `least`, so that none is
+/// searched for. Takes no memory.
+pub fn weigh_near(modulation: Modulation, job: &Job, least: u128, weights: &mut [i32])
+    requires full { job.now.grid ≡ replicate (length job.now.grid) (axes_of modulation) }
+    requires size { length weights.old ≡ length job.now.system * bits_of modulation }
+    requires least { least ≡ (near job.now).distance }
+    requires below { least < 2 ^ 66 }
+    ensures { AreWeights modulation job.now weights.new }
+{
+    if job.system().streams() == 1 {
+        weigh_alone(modulation, job, weights);
+    } else {
+        weigh_near_by::<Brand>(modulation, job, least, weights, Blank::new(1));
+    }
+}
+
+// The weights of any job, with a counter of its own for the levels that are tried.
 fn weigh_by<L: Ledger>(modulation: Modulation, job: &Job, weights: &mut [i32], blank: Blank) -> u128
     requires name { blank.name ≡ L.name }
     requires parts { blank.parts ≡ L.parts }
@@ -58,11 +74,49 @@ fn weigh_by<L: Ledger>(modulation: Modulation, job: &Job, weights: &mut [i32], b
 {
     let mut steps = Steps::<L>::new(blank);
     let least = find(job, &mut steps).distance;
+    weigh_from(modulation, job, least, weights, &mut steps);
+    least
+}
+
+// The weights of a job whose least distance is known, with a counter of its own.
+fn weigh_near_by<L: Ledger>(
+    modulation: Modulation,
+    job: &Job,
+    least: u128,
+    weights: &mut [i32],
+    blank: Blank,
+)
+    requires name { blank.name ≡ L.name }
+    requires parts { blank.parts ≡ L.parts }
+    requires some { 0 < blank.parts }
+    requires full { job.now.grid ≡ replicate (length job.now.grid) (axes_of modulation) }
+    requires size { length weights.old ≡ length job.now.system * bits_of modulation }
+    requires least { least ≡ (near job.now).distance }
+    requires below { least < 2 ^ 66 }
+    ensures { AreWeights modulation job.now weights.new }
+{
+    let mut steps = Steps::<L>::new(blank);
+    weigh_from(modulation, job, least, weights, &mut steps);
+}
+
+// Writes the weights of a job by one walk, from its least distance on.
+fn weigh_from<L: Ledger>(
+    modulation: Modulation,
+    job: &Job,
+    least: u128,
+    weights: &mut [i32],
+    steps: &mut Steps<L>,
+)
+    requires full { job.now.grid ≡ replicate (length job.now.grid) (axes_of modulation) }
+    requires size { length weights.old ≡ length job.now.system * bits_of modulation }
+    requires least { least ≡ (near job.now).distance }
+    requires below { least < 2 ^ 66 }
+    ensures { AreWeights modulation job.now weights.new }
+{
     let clip = least + HEAVIEST;
     let mut leasts = all_at(clip);
-    lower_all(modulation, job, clip, &mut leasts, &mut steps);
+    lower_all(modulation, job, clip, &mut leasts, steps);
     write(weights, &leasts);
-    least
 }
 
 // Lowers the least distances to those of all vectors of the job.
