@@ -1,15 +1,13 @@
 -- Eight jobs of a block that are found together.
-use Rattle.std.proofs.Common.{◌≡◌, ℕ, zero, suc, ◌+◌, ◌%◌, ◌<◌, ◌≤◌, List, [], ◌∷◌, ◌++◌, Option, Some, IfSome, length, length-append, take, map, get_or}
-use Rattle.std.proofs.Common.{slice_get, slice_index, slice_index_or, arith, ap, refl, subst, sym, ◌∙◌}
+use Rattle.std.proofs.Common.{◌≡◌, ℕ, zero, suc, ◌+◌, ◌%◌, ◌≤◌, List, [], ◌∷◌, ◌++◌, Some, length, length-append, take}
+use Rattle.std.proofs.Common.{slice_get, slice_index, arith, ap, refl, subst, sym, ◌∙◌}
 use Rattle.std.proofs.Common.{Result, Ok, Err, OnOk}
-use Rattle.ht_metric.specs.Jobs.{JobView, near}
-use Rattle.ht_pam.specs.declared.point.Point.{Point}
+use Rattle.ht_metric.specs.Jobs.{JobView}
 use Rattle.ht_frames.specs.Tallies.{IsTally}
 use Rattle.ht_frames.proofs.Tallying.{take_one}
 use Rattle.ht_results.specs.Plans.{Plan}
 use Rattle.ht_rounding.specs.declared.eight.Labelled.{Labelled}
-use Rattle.ht_rounding.specs.Labels.{IsLabelled, labels_in}
-use Rattle.ht_rounding.specs.Loading.{no_job}
+use Rattle.ht_rounding.specs.Labels.{labels_in}
 use Rattle.ht_eights.specs.InLanes.{HasFirst}
 
 -- what follows from three facts of what is answered

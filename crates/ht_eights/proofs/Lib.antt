@@ -1,2 +1,3 @@
 pub mod Eights
+pub mod Octets
 pub mod Runs

@@ -1,5 +1,5 @@
 -- Runs of jobs on data subcarriers that follow one another.
-use Rattle.std.proofs.Common.{◌≡◌, ℕ, ◌+◌, ◌-◌, ◌*◌, ◌^◌, ◌<◌, ◌≤◌, List, [], ◌∷◌, ◌++◌, Option, Some, IfSome, Bool, true, not, map}
+use Rattle.std.proofs.Common.{◌≡◌, ℕ, ◌+◌, ◌*◌, ◌^◌, ◌<◌, ◌≤◌, List, [], ◌∷◌, ◌++◌, Option, Some, IfSome, Bool, true, not, map}
 use Rattle.std.proofs.Common.{if◌then◌else◌, drop, length, take, get_or, slice_get, slice_index, length-append, arith, ap, refl, subst, sym, ◌∙◌}
 use Rattle.std.specs.List.{filter, flat_map, range_with_len}
 use Rattle.std.proofs.Math.Seq.{take-add}
@@ -13,7 +13,6 @@ use Rattle.ht_frames.specs.Tallies.{IsTally, job_kept, job_places, kept_as, plac
 use Rattle.ht_frames.proofs.Tallying.{long_tally}
 use Rattle.ht_metric.specs.Jobs.{JobView, near}
 use Rattle.ht_metric.specs.declared.place.Place.{Place}
-use Rattle.ht_pam.specs.declared.point.Point.{Point}
 use Rattle.ht_rate.specs.declared.kinds.Modulation.{Modulation}
 use Rattle.ht_rate.specs.declared.kinds.Carrier.{Carrier}
 use Rattle.ht_rate.specs.declared.kinds.Carrier.TheVariants.{Data}

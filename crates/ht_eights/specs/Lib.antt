@@ -1,1 +1,2 @@
+pub mod DataRuns
 pub mod InLanes

@@ -1,8 +1,7 @@
 //! Tallies of blocks whose jobs are found eight at a time.
-ghost use Rattle.std.specs.Prelude.{◌≡◌, ◌+◌, ◌-◌, ◌*◌, ◌/◌, ◌%◌, ◌^◌, ◌<◌, ◌≤◌, ◌++◌, ◌∷◌, [], ℕ, List, true, length, slice_index, IfOk, OnOk};
+ghost use Rattle.std.specs.Prelude.{◌≡◌, ◌+◌, ◌-◌, ◌*◌, ◌/◌, ◌%◌, ◌^◌, ◌<◌, ◌≤◌, ◌++◌, ◌∷◌, [], ℕ, List, true, length, slice_index, take, IfOk, OnOk};
 ghost use Rattle.std.specs.List.{range_with_len};
 ghost use Rattle.ht_metric.specs.Jobs.{JobView};
-ghost use Rattle.ht_rate.specs.declared.kinds.Carrier.TheVariants.{Data};
 ghost use Rattle.ht_rounding.specs.Labels.{AreLabelledFrom, labels_in};
 ghost use Rattle.ht_frames.specs.Tallies.{IsTally};
 ghost use Rattle.ht_results.specs.Folding.{label_at};
@@ -64,25 +63,74 @@ fn octet(number: u32) -> u8
     (number % 256) as u8
 }
 
-// Puts the labels of a lane behind others, stream by stream.
+// Puts the labels of a lane from this place on. Those of streams that there aren't stand behind them, and mean nothing.
 #[inline(always)]
-fn push_lane(labels: &mut Vec<u8>, lanes: &Labelled, k: usize) -> Result<(), AllocError>
+fn put_lane(octets: &mut [u8; 32], at: usize, lanes: &Labelled, k: usize)
     requires lane { k < 8 }
+    requires room { at + 4 ≤ 32 }
+    requires most { lanes.now.streams ≤ 4 }
+    ensures { take (at + lanes.now.streams) octets.new ≡ take at octets.old ++ labels_in lanes.now k }
+{
+    octets[at] = octet(lanes.first[k]);
+    octets[at + 1] = octet(lanes.second[k]);
+    octets[at + 2] = octet(lanes.third[k]);
+    octets[at + 3] = octet(lanes.fourth[k]);
+}
+
+// The labels of eight lanes, lane by lane. What stands behind them means nothing.
+#[inline(always)]
+fn octets_of(lanes: &Labelled, streams: u8) -> [u8; 32]
+    requires streams { streams ≡ lanes.now.streams }
+    requires most { streams ≤ 4 }
+    ensures { take (8 * streams) result ≡ lane_labels lanes.now 0 8 }
+{
+    let mut octets = [0; 32];
+    for k in 0..8 {
+        put_lane(&mut octets, k * usize::from(streams), lanes, k);
+    }
+    octets
+}
+
+// Puts the labels of so many lanes, from the lane `first` on, behind others. The number of streams is told by itself, so that
+// what is the same for all lanes is known.
+#[inline(always)]
+fn push_from(
+    labels: &mut Vec<u8>,
+    lanes: &Labelled,
+    streams: u8,
+    first: u16,
+    jobs: u16,
+) -> Result<(), AllocError>
+    requires streams { streams ≡ lanes.now.streams }
+    requires most { streams ≤ 4 }
+    requires within { first + jobs ≤ 8 }
+    ensures { OnOk result (labels.new.items ≡ labels.old.items ++ lane_labels lanes.now first jobs) }
+{
+    let octets = octets_of(lanes, streams);
+    let at = usize::from(first) * usize::from(streams);
+    let count = usize::from(jobs) * usize::from(streams);
+    labels.extend_from_slice(&octets[at..at + count])
+}
+
+// The same for any number of streams.
+#[inline(always)]
+fn push_lanes(
+    labels: &mut Vec<u8>,
+    lanes: &Labelled,
+    first: u16,
+    jobs: u16,
+) -> Result<(), AllocError>
     requires some { 1 ≤ lanes.now.streams }
     requires most { lanes.now.streams ≤ 4 }
-    ensures { OnOk result (labels.new.items ≡ labels.old.items ++ labels_in lanes.now k) }
+    requires within { first + jobs ≤ 8 }
+    ensures { OnOk result (labels.new.items ≡ labels.old.items ++ lane_labels lanes.now first jobs) }
 {
-    let first = octet(lanes.first[k]);
-    let second = octet(lanes.second[k]);
-    let third = octet(lanes.third[k]);
-    let fourth = octet(lanes.fourth[k]);
     match lanes.streams {
-        1 => labels.push(first)?,
-        2 => labels.extend_from_slice(&[first, second])?,
-        3 => labels.extend_from_slice(&[first, second, third])?,
-        _ => labels.extend_from_slice(&[first, second, third, fourth])?,
+        1 => push_from(labels, lanes, 1, first, jobs),
+        2 => push_from(labels, lanes, 2, first, jobs),
+        3 => push_from(labels, lanes, 3, first, jobs),
+        _ => push_from(labels, lanes, 4, first, jobs),
     }
-    Ok(())
 }
 
 /// The labels of the first nearest vectors of eight jobs of a block, from the one on that has `at` others before it, with their
@@ -125,76 +173,64 @@ pub fn is_sure(lanes: &Labelled, k: u16) -> bool
     lanes.sure[usize::from(k)] != 0
 }
 
-// Whether a place is that of data subcarrier m of a symbol.
+// Whether a place is that of so many subcarriers behind another one, in the same symbol.
 #[inline(always)]
-fn is_at<K: LabelKind>(head: &K::Head, place: Place, symbol: u32, m: u16) -> bool
-    ensures symbol { result ≡ true → place.symbol ≡ symbol }
-    ensures carrier { result ≡ true → K.plan.kind head.now place.carrier ≡ Data m }
+fn is_behind(place: Place, start: Place, jobs: u16) -> bool
+    ensures symbol { result ≡ true → place.symbol ≡ start.symbol }
+    ensures carrier { result ≡ true → place.carrier ≡ start.carrier + jobs }
 {
-    match K::carries(head, place.carrier) {
-        Carrier::Data(other) => u16::from(other) == m && place.symbol == symbol,
-        Carrier::Pilot(_) => false,
-    }
+    place.symbol == start.symbol
+        && u32::from(place.carrier) == u32::from(start.carrier) + u32::from(jobs)
 }
 
-// Puts the labels of the longest run of eight jobs of a block that begins in the lane `first`, and whose lanes are sure, behind
-// others. The eight are those from the one on that has `at` others before it. The only error is lack of memory.
+// The longest run of eight jobs of a block that begins in the lane `first`, and whose lanes are sure. The eight are those from the
+// one on that has `at` others before it.
 #[inline(always)]
-fn push_run<K: LabelKind, B: Jobs>(
-    labels: &mut Vec<u8>,
+fn run_from<K: LabelKind, B: Jobs>(
     head: &K::Head,
     block: &B,
     at: u16,
     lanes: &Labelled,
     first: u16,
-) -> Result<Run, AllocError>
+) -> Run
     requires first { first < 8 }
     requires within { at + 8 ≤ length (B.jobs block.now) }
     requires few { length (B.jobs block.now) < 2 ^ 16 }
-    requires some { 1 ≤ lanes.now.streams }
     requires most { lanes.now.streams ≤ 4 }
     requires streams { lanes.now.streams ≡ K.plan.width head.now }
     requires labels { AreLabelledFrom (label_at (K.modulation_in head.now)) (B.jobs block.now) at lanes.now }
-    ensures within { IfOk result (λ run. first + run.jobs ≤ 8) }
-    ensures few { IfOk result (λ run. run.distance ≤ run.jobs * 2 ^ 32) }
-    ensures labels { IfOk result (λ run. labels.new.items ≡ labels.old.items ++ lane_labels lanes.now first run.jobs) }
-    ensures is { IfOk result (λ run. IsTally K.plan head.now (jobs_behind (B.jobs block.now) (at + first) run.jobs) run.jobs run.distance 0
-        (range_with_len run.place (run.jobs * lanes.now.streams)) (lane_labels lanes.now first run.jobs)) }
+    ensures within { first + result.jobs ≤ 8 }
+    ensures few { result.distance ≤ result.jobs * 2 ^ 32 }
+    ensures is { IsTally K.plan head.now (jobs_behind (B.jobs block.now) (at + first) result.jobs) result.jobs result.distance 0
+        (range_with_len result.place (result.jobs * lanes.now.streams)) (lane_labels lanes.now first result.jobs) }
 {
     let start = block.place_at(at + first);
     let Carrier::Data(m) = K::carries(head, start.carrier) else {
-        return Ok(Run {
+        return Run {
             place: 0,
             jobs: 0,
             distance: 0,
-        });
+        };
     };
     let place = K::place(head, start.symbol, m);
+    let most = u16::from(K::data_run(head, start.carrier));
     let mut distance = 0;
     for k in first..8 {
         let jobs = k - first;
-        if !is_sure(lanes, k)
-            || !is_at::<K>(
-                head,
-                block.place_at(at + k),
-                start.symbol,
-                u16::from(m) + jobs,
-            )
-        {
-            return Ok(Run {
+        if jobs >= most || !is_sure(lanes, k) || !is_behind(block.place_at(at + k), start, jobs) {
+            return Run {
                 place,
                 jobs,
                 distance,
-            });
+            };
         }
-        push_lane(labels, lanes, usize::from(k))?;
         distance += distance_in(lanes, k);
     }
-    Ok(Run {
+    Run {
         place,
         jobs: 8 - first,
         distance,
-    })
+    }
 }
 
 // Adds the longest run of eight jobs of a block that begins in the lane `first`, and answers how many jobs it has: none where that
@@ -222,8 +258,9 @@ fn add_run<K: LabelKind, B: Jobs>(
     if lanes.streams != K::width(&tally.head) {
         return Ok(0);
     }
-    let run = push_run::<K, B>(&mut tally.values, &tally.head, block, at, lanes, first)?;
+    let run = run_from::<K, B>(&tally.head, block, at, lanes, first);
     if run.jobs > 0 {
+        push_lanes(&mut tally.values, lanes, first, run.jobs)?;
         tally.places.add(
             run.place,
             usize::from(run.jobs) * usize::from(lanes.streams),

@@ -1,3 +1,4 @@
+pub mod DataRuns
 pub mod Indices
 pub mod Framed
 pub mod Frames

@@ -6,6 +6,7 @@ ghost use Rattle.ht_legacy_rx.specs.Folding.{IsWithinLimits, with_octets};
 ghost use Rattle.ht_legacy_rx.specs.Results.{first_label, legacy_plan, result_of};
 ghost use Rattle.ht_legacy_rx.specs.Labelling.{one_label};
 
+use crate::data_runs::data_run;
 use ht_clause18::{LegacyRate, legacy_carrier};
 use ht_eights::{LabelKind, found_by};
 use ht_feed::Gate;
@@ -177,6 +178,10 @@ impl LabelKind for LegacyLabels {
 
     fn modulation(head: &LegacyFrameHead) -> Modulation {
         head.rate.modulation()
+    }
+
+    fn data_run(_: &LegacyFrameHead, carrier: u8) -> u8 {
+        data_run(carrier)
     }
 
     ghost labels = { one_label };

@@ -17,6 +17,7 @@
 //! ```
 #![tactic(auto)]
 
+mod data_runs;
 mod labels;
 pub mod laws;
 mod receiving;

@@ -7,3 +7,4 @@ pub mod Labelling
 pub mod Writing
 pub mod Texts
 mod LaneLines
+pub mod DataRuns

@@ -4,6 +4,7 @@ ghost use Rattle.ht_rate.specs.Rates.{modulation_of};
 ghost use Rattle.ht_inverse.specs.Received.{labels_in_frame};
 ghost use Rattle.ht_results.specs.Folding.{label_at, label_plan, result_of, with_octets};
 
+use crate::data_runs::data_run;
 use ht_capture::FrameHead;
 use ht_eights::{LabelKind, found_by};
 use ht_feed::Gate;
@@ -164,6 +165,10 @@ impl LabelKind for HardLabels {
 
     fn modulation(head: &FrameHead) -> Modulation {
         head.rate.modulation()
+    }
+
+    fn data_run(head: &FrameHead, carrier: u8) -> u8 {
+        data_run(&head.rate, carrier)
     }
 
     ghost labels = { λ head job as_many. refl };

@@ -35,6 +35,7 @@
 
 mod block_lines;
 mod carrier_text;
+mod data_runs;
 mod hard_labels;
 mod lane_lines;
 mod line_start;

@@ -1,4 +1,4 @@
-use Rattle.std.proofs.Common.{◌≡◌, ◌+◌, ◌-◌, ◌≤◌}
+use Rattle.std.proofs.Common.{◌+◌, ◌-◌, ◌≤◌}
 use Rattle.ht_eights.specs.InLanes.{HasFirst}
 use Rattle.ht_eights.proofs.in_lanes.add_lanes.Given as goal
 

@@ -1,23 +1,18 @@
-use Rattle.std.proofs.Common.{◌≡◌, ◌∙◌, ◌+◌, ◌-◌, ◌*◌, ◌^◌, ◌<◌, ◌≤◌, ◌++◌, ℕ, List, length, ap, refl, append_assoc, arith, subst, sym}
+use Rattle.std.proofs.Common.{◌≡◌, ◌∙◌, ◌+◌, ◌-◌, ◌*◌, ◌<◌, ℕ, length, ap, refl, arith, subst, sym}
 use Rattle.std.specs.List.{range_with_len}
-use Rattle.std.proofs.lemmas.List.{append-nil}
 use Rattle.ht_frames.specs.Tallies.{IsTally}
-use Rattle.ht_rate.specs.declared.kinds.Carrier.{Carrier}
 use Rattle.ht_rate.specs.declared.kinds.Carrier.TheVariants.{Data}
 use Rattle.ht_results.specs.Plans.{place_by}
-use Rattle.ht_rounding.specs.Labels.{labels_in}
 use Rattle.ht_eights.specs.InLanes.{jobs_behind, lane_labels}
-use Rattle.ht_eights.proofs.Runs.{labels_more, run_more, run_none}
-use Rattle.ht_eights.proofs.in_lanes.push_run.Goals as goal
+use Rattle.ht_eights.proofs.Runs.{run_more, run_none}
+use Rattle.ht_eights.proofs.in_lanes.run_from.Goals as goal
 
 pub loop-k-init : goal.loop-k-init
 loop-k-init g c =
     let first = c.args.first in
     let none : first - first ≡ 0 = omega arith in
-    let items = c.args.labels.now.items in
     record {
       few = omega arith;
-      put = sym (ap (λ (n : ℕ). items ++ lane_labels c.args.lanes.now first n) none ∙ append-nil items);
       is = run_none g.K.Kind.plan c.args.head.now c.args.lanes.now (g.B.Jobs.jobs c.args.block.now) (c.args.at + first) first
           (place_by g.K.Kind.plan c.args.head.now c.place_at-start.result.symbol c.in-Data.m) c.args.lanes.now.streams (first - first) none;
     }
@@ -42,22 +37,17 @@ loop-k-preserved g c =
     let inside : c.args.at + l.k < length jobs = omega (arith, under, within) in
     let few = c.distance_in-distance.ensures.few in
     let bounded = l.invariant.few in
-    let carrier : c.from.result + so_far ≡ m + so_far = ap (λ (n : ℕ). n + so_far) c.from.ensures in
-    let labels = labels_more lanes first so_far l.k lane in
-    let pushed = c.in_ok-push_lane.ensures in
-    let items = c.args.labels.now.items in
-    let put : c.push_lane.new.labels.items ≡ items ++ lane_labels lanes first (so_far + 1) =
-    pushed ∙ (ap (λ (n : ℕ). l.labels.items ++ labels_in lanes n) c.from-in-loop-k.ensures
-    ∙ (ap (λ (x : List ℕ). x ++ labels_in lanes l.k) l.invariant.put
-    ∙ (append_assoc items (lane_labels lanes first so_far) (labels_in lanes l.k) ∙ ap (λ (x : List ℕ). items ++ x) (sym labels)))) in
-    let run = run_more g.K.Kind.plan head (g.K.LabelKind.modulation_in head) (g.met.K.LabelKind.labels head) lanes jobs
-    (c.args.at + first) first so_far l.k (c.args.at + l.k) symbol m l.distance e c.place_at.result
+    let kind : g.K.Kind.plan.kind head c.place_at-start.result.carrier ≡ Data m = sym c.carries.ensures ∙ c.in-Data.is in
+    let more = c.if-jobs-most.false in
+    let most = c.from-most.ensures in
+    let inside_run : so_far < c.data_run.result = omega (arith, more, most) in
+    let carries : g.K.Kind.plan.kind head c.place_at.result.carrier ≡ Data (m + so_far) = ap (λ (n : ℕ). g.K.Kind.plan.kind head n) (c.if-not-is_behind.ensures.carrier refl) ∙ c.data_run.ensures m so_far kind inside_run in
+    let run = run_more g.K.Kind.plan head (g.K.LabelKind.modulation_in head) (g.met.K.LabelKind.labels head) lanes jobs (c.args.at + first) first so_far l.k (c.args.at + l.k) symbol m l.distance e c.place_at.result
     c.requires.streams c.requires.most lane index inside c.distance_in-distance.ensures.value (omega (arith, few)) (c.if-not-is_sure.ensures refl)
-    (c.if-not-is_at.ensures.symbol refl) (c.if-not-is_at.ensures.carrier refl ∙ ap (λ (n : ℕ). Data n) carrier) c.place_at.ensures
+    (c.if-not-is_behind.ensures.symbol refl) carries c.place_at.ensures
     (c.requires.labels l.k under) l.invariant.is in
     record {
       few = omega (arith, few, bounded, next);
-      put = put ∙ ap (λ (n : ℕ). items ++ lane_labels lanes first n) (sym next);
       is = subst (λ (n : ℕ). IsTally g.K.Kind.plan head (jobs_behind jobs (c.args.at + first) n) n (l.distance + e) 0
           (range_with_len (place_by g.K.Kind.plan head symbol m) (n * lanes.streams)) (lane_labels lanes first n)) (sym next) run;
     }
