@@ -1,7 +1,7 @@
 //! The labels of eight subcarriers of a symbol, found together in lanes.
-ghost use Rattle.std.specs.Prelude.{◌≡◌, ◌+◌, ◌*◌, ◌^◌, ◌<◌, ◌≤◌, ℕ, slice_index, slice_index_or, unwrap_or};
+ghost use Rattle.std.specs.Prelude.{◌≡◌, ◌+◌, ◌*◌, ◌^◌, ◌<◌, ◌≤◌, ℕ, length, slice_index, slice_index_or, unwrap_or};
 ghost use Rattle.ht_map.specs.Gray.{label_of};
-ghost use Rattle.ht_clause18.specs.Carriers.{carriers};
+ghost use Rattle.ht_clause18.specs.Carriers.{carriers, carrier_of};
 ghost use Rattle.ht_clause18.specs.Rates.{modulation_of};
 ghost use Rattle.ht_metric.specs.Rows.{no_sample};
 ghost use Rattle.ht_rounding.specs.InLanes.{IsSmall};
@@ -9,68 +9,66 @@ ghost use Rattle.ht_rounding.specs.Labels.{IsLabelled};
 ghost use Rattle.ht_rounding.specs.Loading.{IsWord};
 ghost use Rattle.ht_rounding.specs.Proposals.{AreSmall};
 ghost use Rattle.ht_legacy_blocks.specs.Jobs.{job_of};
-ghost use Rattle.ht_legacy_blocks.specs.Lanes.{IsCut, IsPlainAt};
+ghost use Rattle.ht_legacy_blocks.specs.Lanes.{IsCut, IsData, IsPlainAt};
 
 use crate::symbol::LegacySymbol;
-use ht_clause18::legacy_carrier;
-use ht_rate::{Carrier, Modulation};
+use ht_rate::Modulation;
 use ht_rounding::{Channel, Eight, Labelled, Parts, RowLanes, SampleLanes, label_lanes};
 use std::simd::prelude::*;
 
 // The greatest diagonal that a lane takes.
-const MOST: u16 = (1 << 14) - 1;
+const MOST: u32 = (1 << 14) - 1;
 
-// The diagonal of a subcarrier, cut at 2^14 - 1.
+// 1 for each subcarrier that carries data, and 0 for each pilot.
+static DATA: [u32; 52] = [
+    1, 1, 1, 1, 1, 0, 1, 1, 1, 1, 1, 1, 1, 1, 1, 1, 1, 1, 1, 0, 1, 1, 1, 1, 1, 1, 1, 1, 1, 1, 1, 1,
+    0, 1, 1, 1, 1, 1, 1, 1, 1, 1, 1, 1, 1, 1, 0, 1, 1, 1, 1, 1,
+];
+
+// The diagonals of eight subcarriers, each cut at 2^14 - 1.
 #[inline(always)]
-fn cut(symbol: &LegacySymbol, carrier: u8) -> u32
-    requires { carrier < carriers }
-    ensures { IsCut result (slice_index_or symbol.now.diagonals carrier 0) }
+fn cut_lanes(diagonals: u32x8) -> u32x8
+    ensures { (k : ℕ) → k < 8 → IsCut (slice_index result k) (slice_index diagonals k) }
 {
-    u32::from(symbol.diagonal(carrier).min(MOST))
+    diagonals.simd_min(u32x8::splat(MOST))
 }
 
-// The same of eight subcarriers, from one on.
+// Eight words, from a place on.
 #[inline(always)]
-fn cut_lanes(symbol: &LegacySymbol, first: u8) -> u32x8
+fn words_from(words: &[u32], at: usize) -> u32x8
+    requires { at + 8 ≤ length words.now }
+    ensures { (k : ℕ) → k < 8 → slice_index result k ≡ slice_index words.now (at + k) }
+{
+    u32x8::from_slice(&words[at..])
+}
+
+// 1 where a subcarrier carries data, and 0 elsewhere, of eight subcarriers, from one on.
+#[inline(always)]
+fn data_lanes(first: u8) -> u32x8
     requires { first + 8 ≤ carriers }
-    ensures { (k : ℕ) → k < 8 → IsCut (slice_index result k) (slice_index_or symbol.now.diagonals (first + k) 0) }
+    ensures { (k : ℕ) → k < 8 → 0 < slice_index result k → IsData (carrier_of (first + k)) }
 {
-    let mut lanes = [0u32; 8];
-    for k in 0..8 {
-        lanes[k] = cut(symbol, first + k as u8);
-    }
-    u32x8::from_array(lanes)
+    words_from(&DATA, usize::from(first))
 }
 
-// 1 where a subcarrier carries data and its diagonal isn't cut, and 0 elsewhere.
+// Eight words where a diagonal isn't cut, and 0 elsewhere.
 #[inline(always)]
-fn plain(symbol: &LegacySymbol, carrier: u8) -> u32
-    requires { carrier < carriers }
-    ensures { 0 < result → IsPlainAt symbol.now carrier }
+fn where_small(words: u32x8, diagonals: u32x8) -> u32x8
+    ensures words { (k : ℕ) → k < 8 → 0 < slice_index result k → 0 < slice_index words k }
+    ensures small { (k : ℕ) → k < 8 → 0 < slice_index result k → slice_index diagonals k < 2 ^ 14 }
 {
-    match legacy_carrier(carrier) {
-        Carrier::Data(_) => {
-            if symbol.diagonal(carrier) <= MOST {
-                1
-            } else {
-                0
-            }
-        }
-        Carrier::Pilot(_) => 0,
-    }
+    diagonals
+        .simd_le(u32x8::splat(MOST))
+        .select(words, u32x8::splat(0))
 }
 
-// The same of eight subcarriers, from one on.
+// 1 where a subcarrier carries data and its diagonal isn't cut, and 0 elsewhere, of eight subcarriers, from one on.
 #[inline(always)]
 fn plain_lanes(symbol: &LegacySymbol, first: u8) -> u32x8
     requires { first + 8 ≤ carriers }
     ensures { (k : ℕ) → k < 8 → 0 < slice_index result k → IsPlainAt symbol.now (first + k) }
 {
-    let mut lanes = [0u32; 8];
-    for k in 0..8 {
-        lanes[k] = plain(symbol, first + k as u8);
-    }
-    u32x8::from_array(lanes)
+    where_small(data_lanes(first), symbol.diagonals(first))
 }
 
 // The same where the frame's modulation is this one, and 0 everywhere where it isn't.
@@ -85,40 +83,6 @@ fn plain_by(symbol: &LegacySymbol, modulation: Modulation, first: u8) -> u32x8
     } else {
         u32x8::splat(0)
     }
-}
-
-// The real parts of what was received on eight subcarriers, from one on.
-#[inline(always)]
-fn re_lanes(symbol: &LegacySymbol, first: u8) -> u32x8
-    requires { first + 8 ≤ carriers }
-    ensures { (k : ℕ) → k < 8 → IsWord (slice_index result k) (slice_index_or symbol.now.samples (first + k) no_sample).re }
-{
-    let mut lanes = [0u32; 8];
-    for k in 0..8 {
-        lanes[k] = word(symbol.sample(first + k as u8).re);
-    }
-    u32x8::from_array(lanes)
-}
-
-// The imaginary parts.
-#[inline(always)]
-fn im_lanes(symbol: &LegacySymbol, first: u8) -> u32x8
-    requires { first + 8 ≤ carriers }
-    ensures { (k : ℕ) → k < 8 → IsWord (slice_index result k) (slice_index_or symbol.now.samples (first + k) no_sample).im }
-{
-    let mut lanes = [0u32; 8];
-    for k in 0..8 {
-        lanes[k] = word(symbol.sample(first + k as u8).im);
-    }
-    u32x8::from_array(lanes)
-}
-
-// A number with a sign as a word.
-#[inline(always)]
-fn word(number: i32) -> u32
-    ensures { IsWord result number }
-{
-    number.cast_unsigned()
 }
 
 // No row.
@@ -146,7 +110,7 @@ fn channel(symbol: &LegacySymbol, first: u8) -> Channel
     let none = no_row();
     Channel {
         first: RowLanes {
-            diagonal: cut_lanes(symbol, first),
+            diagonal: cut_lanes(symbol.diagonals(first)),
             ..none
         },
         second: none,
@@ -166,8 +130,8 @@ fn samples(symbol: &LegacySymbol, first: u8) -> SampleLanes
     let nothing = Parts { re: none, im: none };
     SampleLanes {
         first: Parts {
-            re: re_lanes(symbol, first),
-            im: im_lanes(symbol, first),
+            re: symbol.re_lanes(first),
+            im: symbol.im_lanes(first),
         },
         second: nothing,
         third: nothing,

@@ -26,6 +26,7 @@ mod lanes;
 mod reader;
 mod stage;
 mod symbol;
+mod words;
 
 pub use block::LegacyBlock;
 pub use head::LegacyFrameHead;

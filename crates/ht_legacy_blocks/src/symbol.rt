@@ -1,12 +1,14 @@
 //! Symbols that were read.
-ghost use Rattle.std.specs.Prelude.{◌≡◌, ◌+◌, ◌^◌, ◌<◌, ◌≤◌, length, slice_index_or, IsTrue};
+ghost use Rattle.std.specs.Prelude.{◌≡◌, ◌+◌, ◌^◌, ◌<◌, ◌≤◌, ℕ, length, slice_index, slice_index_or, IsTrue};
 ghost use Rattle.ht_clause18.specs.Carriers.{carriers};
 ghost use Rattle.ht_metric.specs.Rows.{no_sample};
 ghost use Rattle.ht_capture.specs.Numbers.{unsigned_at};
+ghost use Rattle.ht_rounding.specs.Loading.{IsWord};
 ghost use Rattle.ht_legacy_blocks.specs.Jobs.{diagonals_of, grid_at, job_of, row_of, samples_of};
 
 use crate::grids::{constellation, pilot_point};
 use crate::head::LegacyFrameHead;
+use crate::words::{shorts, words};
 use byteorder::{BigEndian, ByteOrder};
 use ht_capture::numbers::sample;
 use ht_clause18::legacy_carrier;
@@ -14,6 +16,7 @@ use ht_metric::{Job, Place, Sample, System, Tap, Triangle};
 use ht_pam::Grid;
 use ht_rate::Carrier;
 use std::marker::Model;
+use std::simd::prelude::*;
 
 /// The subcarriers of a symbol.
 pub const CARRIERS: u8 = 52;
@@ -129,7 +132,7 @@ impl LegacySymbol {
 
     // The diagonal of a subcarrier.
     #[inline]
-    pub(crate) fn diagonal(&self, carrier: u8) -> u16
+    fn diagonal(&self, carrier: u8) -> u16
         requires { carrier < carriers }
         ensures { result ≡ slice_index_or self.now.diagonals carrier 0 }
     {
@@ -138,11 +141,38 @@ impl LegacySymbol {
 
     // The sample of a subcarrier.
     #[inline]
-    pub(crate) fn sample(&self, carrier: u8) -> Sample
+    fn sample(&self, carrier: u8) -> Sample
         requires { carrier < carriers }
         ensures { result ≡ slice_index_or self.now.samples carrier no_sample }
     {
         sample(&self.samples, 8 * usize::from(carrier))
+    }
+
+    // The diagonals of eight subcarriers, from one on.
+    #[inline(always)]
+    pub(crate) fn diagonals(&self, first: u8) -> u32x8
+        requires { first + 8 ≤ carriers }
+        ensures { (k : ℕ) → k < 8 → slice_index result k ≡ slice_index_or self.now.diagonals (first + k) 0 }
+    {
+        shorts(&self.diagonals, 2 * usize::from(first))
+    }
+
+    // The real parts of what was received on eight subcarriers, from one on.
+    #[inline(always)]
+    pub(crate) fn re_lanes(&self, first: u8) -> u32x8
+        requires { first + 8 ≤ carriers }
+        ensures { (k : ℕ) → k < 8 → IsWord (slice_index result k) (slice_index_or self.now.samples (first + k) no_sample).re }
+    {
+        words(&self.samples, 8 * usize::from(first))
+    }
+
+    // The imaginary parts.
+    #[inline(always)]
+    pub(crate) fn im_lanes(&self, first: u8) -> u32x8
+        requires { first + 8 ≤ carriers }
+        ensures { (k : ℕ) → k < 8 → IsWord (slice_index result k) (slice_index_or self.now.samples (first + k) no_sample).im }
+    {
+        words(&self.samples, 8 * usize::from(first) + 4)
     }
 
     // The grid of a subcarrier.

@@ -47,13 +47,16 @@ impl Answer for Lines {
 #[derive(Drop)]
 pub(crate) struct LineWork<'g, G> {
     alloc: Global,
-    gate: &'g G,
+    /// What jobs go through.
+    pub(crate) gate: &'g G,
     texts: AllTexts,
 }
 
 impl<'g, G> LineWork<'g, G> {
     /// What makes lines, for which `alloc` has memory, where jobs go through a gate. The only error is lack of memory.
-    pub(crate) fn new(alloc: Global, gate: &'g G) -> Result<LineWork<'g, G>, AllocError> {
+    pub(crate) fn new(alloc: Global, gate: &'g G) -> Result<LineWork<'g, G>, AllocError>
+        ensures { IfOk result (λ work. work.gate.now ≡ gate.now) }
+    {
         let texts = AllTexts::new(alloc)?;
         Ok(LineWork { alloc, gate, texts })
     }

@@ -53,10 +53,18 @@ fn write_point(into: &mut [u8], end: usize, texts: &Texts, there: bool, label: u
 
 // Writes the texts of the points whose labels a lane has, stream by stream.
 #[inline(always)]
-fn write_points(into: &mut [u8], end: usize, texts: &Texts, lanes: &Labelled, k: usize) -> usize
+fn write_points(
+    into: &mut [u8],
+    end: usize,
+    texts: &Texts,
+    streams: u8,
+    lanes: &Labelled,
+    k: usize,
+) -> usize
     requires room { 46 ≤ end }
     requires within { end ≤ length into.old }
     requires lane { k < 8 }
+    requires streams { streams ≡ lanes.now.streams }
     requires some { 1 ≤ lanes.now.streams }
     requires most { lanes.now.streams ≤ 4 }
     requires labels { HasLabels texts.now.modulation lanes.now k }
@@ -64,9 +72,9 @@ fn write_points(into: &mut [u8], end: usize, texts: &Texts, lanes: &Labelled, k:
     ensures written { drop result into.new
         ≡ spaced (levels_of (map (point_of texts.now.modulation) (labels_in lanes.now k))) ++ drop end into.old }
 {
-    let at = write_point(into, end, texts, lanes.streams > 3, lanes.fourth[k]);
-    let at = write_point(into, at, texts, lanes.streams > 2, lanes.third[k]);
-    let at = write_point(into, at, texts, lanes.streams > 1, lanes.second[k]);
+    let at = write_point(into, end, texts, streams > 3, lanes.fourth[k]);
+    let at = write_point(into, at, texts, streams > 2, lanes.third[k]);
+    let at = write_point(into, at, texts, streams > 1, lanes.second[k]);
     write_point(into, at, texts, true, lanes.first[k])
 }
 
@@ -79,12 +87,14 @@ fn write_found(
     front: &mut LineStart,
     texts: &Texts,
     place: Place,
+    streams: u8,
     lanes: &Labelled,
     k: usize,
 ) -> usize
     requires room { LINE ≤ end }
     requires within { end ≤ length into.old }
     requires lane { k < 8 }
+    requires streams { streams ≡ lanes.now.streams }
     requires some { 1 ≤ lanes.now.streams }
     requires most { lanes.now.streams ≤ 4 }
     requires labels { HasLabels texts.now.modulation lanes.now k }
@@ -92,7 +102,7 @@ fn write_found(
     ensures written { drop result into.new ≡ line_at place (found_in texts.now.modulation lanes.now k) ++ drop end into.old }
 {
     let at = write_octet(into, end, b'\n');
-    let at = write_points(into, at, texts, lanes, k);
+    let at = write_points(into, at, texts, streams, lanes, k);
     let at = write_digits(u64::from(lanes.distance[k]), into, at);
     let at = texts.carrier(place.carrier).write(into, at);
     front.turn_to(place);
@@ -145,6 +155,7 @@ fn write_lane(
     front: &mut LineStart,
     texts: &Texts,
     block: &CaptureBlock,
+    streams: u8,
     lanes: &Labelled,
     at: u16,
     k: u16,
@@ -152,6 +163,7 @@ fn write_lane(
     requires room { LINE ≤ end }
     requires within { end ≤ length into.old }
     requires lane { k < 8 }
+    requires streams { streams ≡ lanes.now.streams }
     requires inside { at + 8 ≤ length (jobs_of block.now.block) }
     requires few { length (jobs_of block.now.block) < 2 ^ 16 }
     requires texts { texts.now.modulation ≡ modulation_of block.now.block.head.rate }
@@ -164,13 +176,63 @@ fn write_lane(
 {
     let place = block.place_at(at + k);
     if is_sure(lanes, k) && carries_data(&block.head().rate, place.carrier) {
-        let start = write_found(into, end, front, texts, place, lanes, usize::from(k));
+        let start = write_found(
+            into,
+            end,
+            front,
+            texts,
+            place,
+            streams,
+            lanes,
+            usize::from(k),
+        );
         return Written { start, hard: false };
     }
     write_alone(into, end, front, block, at + k)
 }
 
-// Writes the lines of the first `count` of eight jobs of a block, of which `at` others are before the first one.
+// Writes the lines of the first `count` of eight jobs of so many streams of a block, of which `at` others are before the first
+// one, as the lanes have found them.
+#[inline(always)]
+fn write_eight(
+    into: &mut [u8],
+    end: usize,
+    front: &mut LineStart,
+    texts: &Texts,
+    block: &CaptureBlock,
+    streams: u8,
+    lanes: &Labelled,
+    at: u16,
+    count: u16,
+) -> Written
+    requires room { LINE * count ≤ end }
+    requires within { end ≤ length into.old }
+    requires count { count ≤ LANES }
+    requires streams { streams ≡ lanes.now.streams }
+    requires inside { at + 8 ≤ length (jobs_of block.now.block) }
+    requires few { length (jobs_of block.now.block) < 2 ^ 16 }
+    requires texts { texts.now.modulation ≡ modulation_of block.now.block.head.rate }
+    requires some { 1 ≤ lanes.now.streams }
+    requires most { lanes.now.streams ≤ 4 }
+    requires labels { AreLabelledFrom (label_at texts.now.modulation) (jobs_of block.now.block) at lanes.now }
+    requires lines { AreLines block.now.block (at + count) end into.old }
+    ensures start { (result.start ≤ end) × (end ≤ result.start + LINE * count) }
+    ensures lines { AreLines block.now.block at result.start into.new }
+{
+    let mut start = end;
+    let mut hard = false;
+    let mut left = count;
+    while left > 0 {
+        left -= 1;
+        let written = write_lane(into, start, front, texts, block, streams, lanes, at, left);
+        start = written.start;
+        hard = hard | written.hard;
+    }
+    Written { start, hard }
+}
+
+// Writes the lines of the first `count` of eight jobs of a block, of which `at` others are before the first one. There is code
+// of its own for one stream.
 fn write_lanes(
     into: &mut [u8],
     end: usize,
@@ -191,16 +253,20 @@ fn write_lanes(
     ensures lines { AreLines block.now.block at result.start into.new }
 {
     let lanes = lanes_from(texts.modulation, block, at);
-    let mut start = end;
-    let mut hard = false;
-    let mut left = count;
-    while left > 0 {
-        left -= 1;
-        let written = write_lane(into, start, front, texts, block, &lanes, at, left);
-        start = written.start;
-        hard = hard | written.hard;
+    if lanes.streams == 1 {
+        return write_eight(into, end, front, texts, block, 1, &lanes, at, count);
     }
-    Written { start, hard }
+    write_eight(
+        into,
+        end,
+        front,
+        texts,
+        block,
+        lanes.streams,
+        &lanes,
+        at,
+        count,
+    )
 }
 
 /// Writes the lines of a block's jobs, which are eight or more, to the end. The jobs are found eight at a time, the last ones

@@ -1,6 +1,6 @@
 use Rattle.std.proofs.Common.{◌+◌, ◌*◌, ◌≤◌}
 use Rattle.ht_rx.specs.LaneLines.{AreLines}
-use Rattle.ht_rx.proofs.lane_lines.write_lanes.Given as goal
+use Rattle.ht_rx.proofs.lane_lines.write_eight.Given as goal
 
 -- the lines of the jobs behind those that are left are there, and room for the others
 abbrev pub invariant-loop-left : goal.invariant-loop-left

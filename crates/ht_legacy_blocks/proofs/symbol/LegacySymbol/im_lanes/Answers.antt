@@ -1,0 +1,6 @@
+use Rattle.ht_legacy_blocks.proofs.Loaded.{lane-im}
+use Rattle.ht_legacy_blocks.proofs.symbol.LegacySymbol.im_lanes.Goals as goal
+
+pub returns : goal.returns
+returns c k lt =
+    rw (← c.self.view_is) (lane-im c.self.inside.samples c.args.first k c.from.result _ c.from.ensures c.requires lt (c.words.ensures k lt))
