@@ -82,7 +82,7 @@ cut x count i few lt =
     flag-and x (1 * 2 ^ count % 18446744073709551616 - 1) i
     ∙ and-true (flag x i) _ (ap (λ (n : ℕ). flag n i) (mask count few) ∙ ap (λ (n : ℕ). n == 1) (bit_at_ones count i lt))
 
-or-none : (b c : Bool) → c ≡ false → (b || c) ≡ b
+pub or-none : (b c : Bool) → c ≡ false → (b || c) ≡ b
 or-none false c is = is
 or-none true c is = refl
 

@@ -6,3 +6,4 @@ pub mod Gathering
 pub mod Buckets
 pub mod Layouts
 pub mod Words
+pub mod Inputs

@@ -51,7 +51,7 @@ step-mod TwoThirds at step lt = omega (arith, lt)
 step-mod ThreeQuarters at step lt = omega (arith, lt)
 step-mod FiveSixths at step lt = omega (arith, lt)
 
-bit-in : (pattern : Pattern) (input : List ℕ) (at step t : ℕ) → step < word_steps pattern → t ≡ at * word_steps pattern + step
+pub bit-in : (pattern : Pattern) (input : List ℕ) (at step t : ℕ) → step < word_steps pattern → t ≡ at * word_steps pattern + step
     → input_bit pattern input t ≡ flag (get_or input at 0) step
 bit-in pattern input at step t lt is =
     ap (input_bit pattern input) is

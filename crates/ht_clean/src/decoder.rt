@@ -1,28 +1,19 @@
 //! The decoder of words with few wrong places.
-ghost use Rattle.std.specs.Prelude.{◌≡◌, ◌+◌, ◌*◌, ◌<◌, ◌≤◌, IfOk, IfSome, length, vec_capacity};
+ghost use Rattle.std.specs.Prelude.{◌≡◌, ◌+◌, ◌*◌, ◌<◌, ◌≤◌, IfOk, IfSome, length};
 ghost use Rattle.ht_conv.specs.Puncturing.{sent_count};
 ghost use Rattle.ht_viterbi.specs.Inputs.{IsFound, place_cost, tail};
 ghost use Rattle.ht_viterbi.specs.Packed.{packed, word_steps};
-ghost use Rattle.ht_clean.specs.Sparse.{input_bit, unpacked};
+ghost use Rattle.ht_clean.specs.Sparse.{unpacked};
 
 use crate::check::wrong_if_nearest;
 use crate::guess::guess;
+use crate::input::{PackedInput, unpacked_bits};
 use crate::layout::steps_of_word;
 use crate::peel::peel;
 use ht_bits::Bits;
 use ht_rate::Pattern;
 use ht_viterbi::{Codeword, decode_packed};
 use std::alloc::{AllocError, Global};
-
-/// The nearest input in words, and its distance.
-#[derive(Drop)]
-pub struct PackedInput {
-    /// The encoder's input, its tail of six zeros included: the first step lowest, in each word as many steps as have their
-    /// places in a word of 60 places, which is 30 at rate 1/2, 40 at 2/3, 45 at 3/4 and 50 at 5/6.
-    pub words: Vec<u64>,
-    /// At how many places the coded bits of the input differ from what was received.
-    pub distance: u32,
-}
 
 /// Decodes a punctured codeword of which no place is erased, if its wrong places lie far enough apart: the first terminated
 /// input whose coded bits are nearest to the places, which are packed into words as [`decode_packed`](ht_viterbi::decode_packed)
@@ -67,44 +58,6 @@ pub fn decode_sparse_words(
     }
 }
 
-// Appends the bits of a word's first steps, which come next.
-#[inline(always)]
-fn push_word(pattern: Pattern, words: &[u64], bits: &mut Vec<bool>, at: u32, count: u32)
-    requires count { count ≤ word_steps pattern }
-    requires within { at * word_steps pattern + count ≤ word_steps pattern * length words.now }
-    requires room { at * word_steps pattern + count ≤ vec_capacity bits.old }
-    requires so_far { bits.old.items ≡ unpacked pattern words.now (at * word_steps pattern) }
-    ensures items { bits.new.items ≡ unpacked pattern words.now (at * word_steps pattern + count) }
-    ensures capacity { vec_capacity bits.new ≡ vec_capacity bits.old }
-{
-    if count > 0 {
-        let word = words[at as usize];
-        for step in 0..count {
-            bits.push_reserved(word >> step & 1 == 1);
-        }
-    }
-}
-
-// The bits of the first steps, where words hold the input.
-fn unpacked_bits(
-    alloc: Global,
-    steps: u32,
-    pattern: Pattern,
-    words: &[u64],
-) -> Result<Vec<bool>, AllocError>
-    requires { steps ≤ word_steps pattern * length words.now }
-    ensures { IfOk result (λ bits. bits.items ≡ unpacked pattern words.now steps) }
-{
-    let width = steps_of_word(pattern);
-    let whole = steps / width;
-    let mut bits = Vec::with_capacity(alloc, steps as usize)?;
-    for at in 0..whole {
-        push_word(pattern, words, &mut bits, at, width);
-    }
-    push_word(pattern, words, &mut bits, whole, steps % width);
-    Ok(bits)
-}
-
 /// Decodes a punctured codeword of which no place is erased as [`decode_sparse_words`] does, with the input as a list of bits.
 /// It takes one octet more for each of them.
 ///
@@ -133,8 +86,8 @@ pub fn decode_sparse(
     }
 }
 
-/// Decodes a punctured codeword of which no place is erased, as [`decode_packed`] does and from the same words: by the guess of
-/// [`decode_sparse`] where its wrong places lie far enough apart, else by the trellis.
+/// Decodes a punctured codeword of which no place is erased, as [`decode_packed`] does and from the same words, with the input
+/// in words: by the guess of [`decode_sparse_words`] where its wrong places lie far enough apart, else by the trellis.
 ///
 /// IEEE Std 802.11-2012, clauses 18.3.5.6 and 20.3.11.6.
 pub fn decode_words(
@@ -142,14 +95,19 @@ pub fn decode_words(
     steps: u32,
     pattern: Pattern,
     words: &[u64],
-) -> Result<Codeword, AllocError>
+) -> Result<PackedInput, AllocError>
     requires least { tail ≤ steps }
     requires most { steps ≤ 524302 }
     requires places { sent_count pattern steps ≤ 60 * length words.now }
-    ensures { IfOk result (λ c. IsFound place_cost steps pattern (packed words.now (sent_count pattern steps)) c.input c.distance) }
+    ensures found { IfOk result (λ p.
+        IsFound place_cost steps pattern (packed words.now (sent_count pattern steps)) (unpacked pattern p.words.items steps) p.distance) }
+    ensures whole { IfOk result (λ p. steps ≤ word_steps pattern * length p.words.items) }
 {
-    match decode_sparse(alloc, steps, pattern, words)? {
+    match decode_sparse_words(alloc, steps, pattern, words)? {
         Some(found) => Ok(found),
-        None => decode_packed(alloc, steps, pattern, words),
+        None => {
+            let codeword = decode_packed(alloc, steps, pattern, words)?;
+            PackedInput::of(alloc, pattern, &codeword)
+        }
     }
 }

@@ -28,6 +28,7 @@ mod bucket;
 mod check;
 mod decoder;
 mod guess;
+mod input;
 pub mod laws;
 mod layout;
 mod peel;
@@ -35,4 +36,5 @@ mod planes;
 #[cfg(test)]
 mod tests;
 
-pub use decoder::{PackedInput, decode_sparse, decode_sparse_words, decode_words};
+pub use decoder::{decode_sparse, decode_sparse_words, decode_words};
+pub use input::{PackedInput, eight_bits};

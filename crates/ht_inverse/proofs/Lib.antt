@@ -3,6 +3,7 @@ pub mod Marked
 pub mod Lost
 pub mod Codewords
 pub mod Outcomes
+pub mod Descrambled
 pub mod Undisturbed
 pub mod Returned
 pub mod Back

@@ -92,7 +92,7 @@ marked-at r j q labels =
     ∙ (sym (cond-false place.lost None (Some (bit_at label place.shift == 1)) (none-lost r (landing_of r j i).carrier))
     ∙ (sym (place-received r 0 j n i labels is.1) ∙ ap (λ k. received_at r 0 labels j k) is.0))
 
-map-range-same : {X : Type 0} (past : X) (f g : ℕ → X) (n : ℕ) → ((q : ℕ) → q < n → f q ≡ g q)
+pub map-range-same : {X : Type 0} (past : X) (f g : ℕ → X) (n : ℕ) → ((q : ℕ) → q < n → f q ≡ g q)
     → map f (range_with_len 0 n) ≡ map g (range_with_len 0 n)
 map-range-same {X} past f g n same =
     let count = length-map-range_with_len f 0 n in

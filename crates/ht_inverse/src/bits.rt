@@ -1,18 +1,20 @@
 //! From the inputs of the encoders to octets.
 ghost use Rattle.std.specs.Prelude.{◌≡◌, ◌+◌, ◌-◌, ◌*◌, ◌%◌, ◌^◌, ◌≤◌, ℕ, List, IfOk, length, take};
-ghost use Rattle.ht_rate.specs.Rates.{encoders_of, steps_of};
+ghost use Rattle.ht_rate.specs.Rates.{encoders_of, pattern_of, steps_of};
 ghost use Rattle.ht_parse.specs.Encoders.{list_of};
 ghost use Rattle.ht_inverse.specs.Decoding.{decoded_frame, joined_bits, outcome_of};
 ghost use Rattle.ht_inverse.specs.Shares.{AreCodewords, untailed};
+ghost use Rattle.ht_inverse.specs.Words.{HasSteps, opened};
 
 use crate::decoded::Decoded;
+use crate::inputs::words_come_to;
 use crate::octets::Octets;
 use crate::outcome::Outcome;
 use ht_bits::{Bits, bits_to_octets};
+use ht_clean::PackedInput;
 use ht_parse::join_encoders;
 use ht_rate::Rate;
 use ht_scramble::{recover, scramble};
-use ht_viterbi::Codeword;
 use std::alloc::{AllocError, Global};
 
 // The number of bits of SERVICE.
@@ -75,21 +77,31 @@ pub fn inputs_come_to(
     come_to(alloc, bits.as_mut_slice())
 }
 
-/// The frame of these codewords. The only refusal is lack of memory.
+/// The frame of these codewords, whose inputs stand in words. The only refusal is lack of memory.
 pub(crate) fn frame_of(
     alloc: Global,
     rate: &Rate,
     octets: u16,
-    first: Codeword,
-    second: Codeword,
+    first: PackedInput,
+    second: PackedInput,
 ) -> Result<Decoded, AllocError>
-    requires first { length first.input ≡ steps_of rate.now octets }
-    requires second { length second.input ≡ (encoders_of rate.now - 1) * steps_of rate.now octets }
+    requires first { HasSteps rate.now (steps_of rate.now octets) first }
+    requires second { HasSteps rate.now ((encoders_of rate.now - 1) * steps_of rate.now octets) second }
     requires few { first.distance + second.distance ≤ 2 ^ 31 }
-    ensures { (erased : ℕ) (labels : List ℕ) → AreCodewords rate.now octets erased labels first second
+    ensures { (erased : ℕ) (labels : List ℕ) → AreCodewords rate.now octets erased labels
+        (opened (pattern_of rate.now) (steps_of rate.now octets) first)
+        (opened (pattern_of rate.now) ((encoders_of rate.now - 1) * steps_of rate.now octets) second)
         → IfOk result (λ frame. frame ≡ decoded_frame rate.now octets erased labels) }
 {
-    let outcome = inputs_come_to(alloc, rate, octets, &first.input, &second.input)?;
+    let two = rate.encoders() == 2;
+    let outcome = words_come_to(
+        alloc,
+        rate.pattern(),
+        two,
+        &first.words,
+        &second.words,
+        u32::from(octets),
+    )?;
     Ok(Decoded {
         outcome,
         code: first.distance + second.distance,

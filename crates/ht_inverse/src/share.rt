@@ -9,6 +9,7 @@ ghost use Rattle.ht_viterbi.specs.Inputs.{tail};
 ghost use Rattle.ht_viterbi.specs.Packed.{packed};
 ghost use Rattle.ht_viterbi.specs.Received.{known_of};
 ghost use Rattle.ht_inverse.specs.Received.{labels_in_frame, labels_per_symbol, received_of, values_of};
+ghost use Rattle.ht_inverse.specs.Words.{HasSteps, opened};
 ghost use Rattle.ht_inverse.specs.Shares.{AreLost, HasSymbols, IsNearest, codeword_of, known_at, label_bit_of, label_bits_to};
 
 use crate::erasures::lost_carriers;
@@ -16,11 +17,11 @@ use crate::frame_labels::FrameLabels;
 use crate::label_bit::LabelBit;
 use crate::label_values::{Decisions, LabelValues, Marks, Values};
 use crate::words::packed_words;
-use ht_clean::decode_words;
+use ht_clean::{PackedInput, decode_words};
 use ht_conv::sent;
 use ht_landing::Landing;
 use ht_rate::Rate;
-use ht_viterbi::{Codeword, ReceivedBit, decode_received};
+use ht_viterbi::{ReceivedBit, decode_received};
 use std::alloc::{AllocError, Global};
 
 /// Where the labels of a symbol have the coded bits of an encoder's share, in their order.
@@ -262,11 +263,13 @@ impl Share {
         alloc: Global,
         frame: &FrameLabels,
         steps: u32,
-    ) -> Result<Codeword, AllocError>
+    ) -> Result<PackedInput, AllocError>
         requires steps { (tail ≤ steps) × (steps ≤ 524302) × (steps ≡ steps_of self.now.rate frame.now.octets) }
         requires labels { length frame.now.labels.now ≡ labels_in_frame self.now.rate frame.now.octets }
         requires whole { self.now.erased ≡ 0 }
-        ensures { IfOk result (IsNearest self.now.rate frame.now.octets self.now.erased frame.now.labels.now self.now.encoder steps) }
+        ensures found { IfOk result (λ p. IsNearest self.now.rate frame.now.octets self.now.erased frame.now.labels.now self.now.encoder steps
+            (opened (pattern_of self.now.rate) steps p)) }
+        ensures whole { IfOk result (λ p. HasSteps self.now.rate steps p) }
     {
         let words = self.packed(alloc, frame)?;
         decode_words(alloc, steps, self.rate.pattern(), &words)
@@ -278,13 +281,17 @@ impl Share {
         alloc: Global,
         frame: &FrameLabels,
         steps: u32,
-    ) -> Result<Codeword, AllocError>
+    ) -> Result<PackedInput, AllocError>
         requires steps { (tail ≤ steps) × (steps ≤ 524302) × (steps ≡ steps_of self.now.rate frame.now.octets) }
         requires labels { length frame.now.labels.now ≡ labels_in_frame self.now.rate frame.now.octets }
-        ensures { IfOk result (IsNearest self.now.rate frame.now.octets self.now.erased frame.now.labels.now self.now.encoder steps) }
+        ensures found { IfOk result (λ p. IsNearest self.now.rate frame.now.octets self.now.erased frame.now.labels.now self.now.encoder steps
+            (opened (pattern_of self.now.rate) steps p)) }
+        ensures whole { IfOk result (λ p. HasSteps self.now.rate steps p) }
     {
         let received = self.gathered(alloc, frame)?;
-        decode_received(alloc, steps, self.rate.pattern(), &received)
+        let pattern = self.rate.pattern();
+        let codeword = decode_received(alloc, steps, pattern, &received)?;
+        PackedInput::of(alloc, pattern, &codeword)
     }
 
     // The nearest codeword of a frame.
@@ -293,10 +300,12 @@ impl Share {
         alloc: Global,
         frame: &FrameLabels,
         steps: u32,
-    ) -> Result<Codeword, AllocError>
+    ) -> Result<PackedInput, AllocError>
         requires steps { (tail ≤ steps) × (steps ≤ 524302) × (steps ≡ steps_of self.now.rate frame.now.octets) }
         requires labels { length frame.now.labels.now ≡ labels_in_frame self.now.rate frame.now.octets }
-        ensures { IfOk result (IsNearest self.now.rate frame.now.octets self.now.erased frame.now.labels.now self.now.encoder steps) }
+        ensures found { IfOk result (λ p. IsNearest self.now.rate frame.now.octets self.now.erased frame.now.labels.now self.now.encoder steps
+            (opened (pattern_of self.now.rate) steps p)) }
+        ensures whole { IfOk result (λ p. HasSteps self.now.rate steps p) }
     {
         if self.erased == 0 {
             self.nearest_whole(alloc, frame, steps)
@@ -330,17 +339,17 @@ impl Share {
         self.received(alloc, symbols, &labels, self.coded_bits(octets))
     }
 
-    /// The codeword of a frame, decoded.
+    /// The codeword of a frame, decoded, with its input in words.
     pub(crate) fn codeword(
         &self,
         alloc: Global,
         frame: &FrameLabels,
-    ) -> Result<Codeword, AllocError>
+    ) -> Result<PackedInput, AllocError>
         requires { length frame.now.labels.now ≡ labels_in_frame self.now.rate frame.now.octets }
-        ensures value { IfOk result (λ c. c
+        ensures value { IfOk result (λ p. opened (pattern_of self.now.rate) (steps_of self.now.rate frame.now.octets) p
             ≡ codeword_of self.now.rate frame.now.octets self.now.erased frame.now.labels.now self.now.encoder) }
-        ensures steps { IfOk result (λ c. length c.input ≡ steps_of self.now.rate frame.now.octets) }
-        ensures few { IfOk result (λ c. c.distance ≤ 2 ^ 30) }
+        ensures steps { IfOk result (λ p. HasSteps self.now.rate (steps_of self.now.rate frame.now.octets) p) }
+        ensures few { IfOk result (λ p. p.distance ≤ 2 ^ 30) }
     {
         let steps = self.rate.codeword_steps(frame.octets);
         self.nearest(alloc, frame, steps)

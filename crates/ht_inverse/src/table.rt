@@ -1,18 +1,18 @@
 //! Where the labels of a symbol have the coded bits of all encoders.
 ghost use Rattle.std.specs.Prelude.{◌≡◌, ◌==◌, ◌↔◌, ◌-◌, ◌*◌, ◌^◌, ◌≤◌, IfOk, IsTrue, if◌then◌else◌, length};
-ghost use Rattle.ht_rate.specs.Rates.{encoders_of, steps_of};
+ghost use Rattle.ht_rate.specs.Rates.{encoders_of, pattern_of, steps_of};
 ghost use Rattle.ht_inverse.specs.Decoding.{decoded_frame};
 ghost use Rattle.ht_inverse.specs.Received.{labels_in_frame};
 ghost use Rattle.ht_inverse.specs.Shares.{codeword_of, no_codeword};
 ghost use Rattle.ht_inverse.specs.Tables.{IsSecond};
+ghost use Rattle.ht_inverse.specs.Words.{HasSteps, opened};
 
 use crate::bits::frame_of;
 use crate::decoded::Decoded;
 use crate::frame_labels::FrameLabels;
 use crate::share::Share;
-use ht_bits::Bits;
+use ht_clean::PackedInput;
 use ht_rate::Rate;
-use ht_viterbi::Codeword;
 use std::alloc::{AllocError, Global};
 use std::thread;
 use std::thread::Threads;
@@ -59,17 +59,20 @@ impl Table {
     }
 
     // The codeword of encoder 1, or an empty one where there is none.
-    fn second_codeword(&self, alloc: Global, frame: &FrameLabels) -> Result<Codeword, AllocError>
+    fn second_codeword(&self, alloc: Global, frame: &FrameLabels) -> Result<PackedInput, AllocError>
         requires { length frame.now.labels.now ≡ labels_in_frame self.now.first.rate frame.now.octets }
-        ensures value { IfOk result (λ c. c ≡ (if encoders_of self.now.first.rate == 2
+        ensures value { IfOk result (λ p.
+            opened (pattern_of self.now.first.rate) ((encoders_of self.now.first.rate - 1) * steps_of self.now.first.rate frame.now.octets) p
+            ≡ (if encoders_of self.now.first.rate == 2
             then codeword_of self.now.first.rate frame.now.octets self.now.first.erased frame.now.labels.now 1 else no_codeword)) }
-        ensures steps { IfOk result (λ c. length c.input ≡ (encoders_of self.now.first.rate - 1) * steps_of self.now.first.rate frame.now.octets) }
-        ensures few { IfOk result (λ c. c.distance ≤ 2 ^ 30) }
+        ensures steps { IfOk result (λ p.
+            HasSteps self.now.first.rate ((encoders_of self.now.first.rate - 1) * steps_of self.now.first.rate frame.now.octets) p) }
+        ensures few { IfOk result (λ p. p.distance ≤ 2 ^ 30) }
     {
         match &self.second {
             Some(share) => share.codeword(alloc, frame),
-            None => Ok(Codeword {
-                input: Bits::from(Vec::new(alloc)),
+            None => Ok(PackedInput {
+                words: Vec::new(alloc),
                 distance: 0,
             }),
         }
@@ -104,18 +107,22 @@ impl Table {
         let labels = frame.labels;
         let (first, second) = thread::join(
             rt,
-            || -> Result<Codeword, AllocError>
+            || -> Result<PackedInput, AllocError>
                 requires { (1 ≤ octets) × (length labels.now ≡ labels_in_frame self.now.first.rate octets) }
-                ensures value { IfOk result (λ c. c ≡ codeword_of self.entry.now.first.rate octets self.entry.now.first.erased labels.entry.now 0) }
-                ensures steps { IfOk result (λ c. length c.input ≡ steps_of self.entry.now.first.rate octets) }
-                ensures few { IfOk result (λ c. c.distance ≤ 2 ^ 30) }
+                ensures value { IfOk result (λ p. opened (pattern_of self.entry.now.first.rate) (steps_of self.entry.now.first.rate octets) p
+                    ≡ codeword_of self.entry.now.first.rate octets self.entry.now.first.erased labels.entry.now 0) }
+                ensures steps { IfOk result (λ p. HasSteps self.entry.now.first.rate (steps_of self.entry.now.first.rate octets) p) }
+                ensures few { IfOk result (λ p. p.distance ≤ 2 ^ 30) }
             { self.first.codeword(alloc, &FrameLabels { octets, labels }) },
-            || -> Result<Codeword, AllocError>
+            || -> Result<PackedInput, AllocError>
                 requires { (1 ≤ octets) × (length labels.now ≡ labels_in_frame self.now.first.rate octets) }
-                ensures value { IfOk result (λ c. c ≡ (if encoders_of self.entry.now.first.rate == 2
+                ensures value { IfOk result (λ p. opened (pattern_of self.entry.now.first.rate)
+                    ((encoders_of self.entry.now.first.rate - 1) * steps_of self.entry.now.first.rate octets) p
+                    ≡ (if encoders_of self.entry.now.first.rate == 2
                     then codeword_of self.entry.now.first.rate octets self.entry.now.first.erased labels.entry.now 1 else no_codeword)) }
-                ensures steps { IfOk result (λ c. length c.input ≡ (encoders_of self.entry.now.first.rate - 1) * steps_of self.entry.now.first.rate octets) }
-                ensures few { IfOk result (λ c. c.distance ≤ 2 ^ 30) }
+                ensures steps { IfOk result (λ p. HasSteps self.entry.now.first.rate
+                    ((encoders_of self.entry.now.first.rate - 1) * steps_of self.entry.now.first.rate octets) p) }
+                ensures few { IfOk result (λ p. p.distance ≤ 2 ^ 30) }
             { self.second_codeword(alloc, &FrameLabels { octets, labels }) },
         );
         frame_of(alloc, &self.first.rate, octets, first?, second?)

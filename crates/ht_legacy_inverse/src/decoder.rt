@@ -6,24 +6,10 @@ ghost use Rattle.ht_legacy_inverse.specs.Decoding.{legacy_decoded_frame};
 ghost use Rattle.ht_legacy_inverse.specs.Received.{labels_in_frame};
 
 use crate::gather::{received_words, steps};
-use ht_bits::Bits;
 use ht_clause18::LegacyRate;
 use ht_clean::decode_words;
-use ht_inverse::{Decoded, Outcome, come_to};
+use ht_inverse::{Decoded, input_comes_to};
 use std::alloc::{AllocError, Global};
-
-// The bits of SERVICE.
-const SERVICE: usize = 16;
-
-// What the encoder's input comes to: what it has before its tail.
-fn input_comes_to(alloc: Global, octets: u16, input: Bits) -> Result<Outcome, AllocError>
-    requires { length input ≡ needed_bits octets }
-    ensures { IfOk result (λ outcome. outcome ≡ outcome_of (take (16 + 8 * octets) input)) }
-{
-    let mut bits = input.into_vec();
-    bits.truncate(SERVICE + 8 * usize::from(octets));
-    come_to(alloc, bits.as_mut_slice())
-}
 
 /// Decodes a frame from its labels.
 ///
@@ -42,8 +28,11 @@ pub fn legacy_decode_frame(
     ensures { IfOk result (λ frame. frame ≡ legacy_decoded_frame rate octets labels.now) }
 {
     let words = received_words(alloc, rate, octets, labels)?;
-    let codeword = decode_words(alloc, steps(octets), rate.pattern(), words.as_slice())?;
-    let code = codeword.distance;
-    let outcome = input_comes_to(alloc, octets, codeword.input)?;
-    Ok(Decoded { outcome, code })
+    let pattern = rate.pattern();
+    let codeword = decode_words(alloc, steps(octets), pattern, words.as_slice())?;
+    let outcome = input_comes_to(alloc, pattern, codeword.words.as_slice(), octets)?;
+    Ok(Decoded {
+        outcome,
+        code: codeword.distance,
+    })
 }

@@ -3,7 +3,7 @@ use Rattle.std.proofs.lemmas.Nat.Bits.{shr_and_one}
 use Rattle.ht_viterbi.specs.Packed.{word_steps}
 use Rattle.ht_clean.specs.Sparse.{unpacked}
 use Rattle.ht_clean.proofs.Words.{unpacked-length, unpacked-more}
-use Rattle.ht_clean.proofs.decoder.push_word.Goals as goal
+use Rattle.ht_clean.proofs.input.push_word.Goals as goal
 
 pub loop-step-init : goal.loop-step-init
 loop-step-init c =

@@ -1,6 +1,6 @@
 use Rattle.std.proofs.Common.{◌∙◌, sym}
 use Rattle.ht_clean.proofs.Words.{unpacked-none}
-use Rattle.ht_clean.proofs.decoder.unpacked_bits.Goals as goal
+use Rattle.ht_clean.proofs.input.unpacked_bits.Goals as goal
 
 pub loop-at-init : goal.loop-at-init
 loop-at-init c = record {

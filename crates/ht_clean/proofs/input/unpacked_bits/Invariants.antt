@@ -1,7 +1,7 @@
 use Rattle.std.proofs.Common.{◌≡◌, ◌≤◌, ◌*◌, vec_capacity}
 use Rattle.ht_viterbi.specs.Packed.{word_steps}
 use Rattle.ht_clean.specs.Sparse.{unpacked}
-use Rattle.ht_clean.proofs.decoder.unpacked_bits.Given as goal
+use Rattle.ht_clean.proofs.input.unpacked_bits.Given as goal
 
 abbrev pub invariant-loop-at : goal.invariant-loop-at
 invariant-loop-at l = record {

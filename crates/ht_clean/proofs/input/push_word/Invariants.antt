@@ -1,7 +1,7 @@
 use Rattle.std.proofs.Common.{◌≡◌, ◌+◌, ◌*◌, vec_len, vec_capacity}
 use Rattle.ht_viterbi.specs.Packed.{word_steps}
 use Rattle.ht_clean.specs.Sparse.{unpacked}
-use Rattle.ht_clean.proofs.decoder.push_word.Given as goal
+use Rattle.ht_clean.proofs.input.push_word.Given as goal
 
 abbrev pub invariant-loop-step : goal.invariant-loop-step
 invariant-loop-step l = record {
