@@ -30,8 +30,8 @@ use Rattle.ht_library.specs.declared.crossing.MizgaureHit.{MizgaureHit}
 use Rattle.ht_library.specs.declared.crossing.MizgaureReceived.{MizgaureReceived}
 use Rattle.ht_library.specs.declared.symbols.SymbolSum.{SymbolSum}
 use Rattle.ht_library.specs.Detected.{job_at}
-use Rattle.ht_library.specs.Symbols.{AreHits, AreHitsBelow, AreLabelsBelow, AreLabelsOf, AreSummed, AreSums, IsDistance, IsEmptyOr, found_at, no_distance}
-use Rattle.ht_library.specs.Symbols.{symbol_distance}
+use Rattle.ht_library.specs.Symbols.{AreHits, AreLabelsOf, AreSums, IsDistance, IsEmptyOr, found_at, no_distance, symbol_distance}
+use Rattle.ht_library.specs.Walking.{AreHitsBelow, AreLabelsBelow, AreSummed}
 
 -- the squared distances of so many samples from one on, and of one more
 

@@ -2,6 +2,7 @@ mod Answered
 mod CheckLines
 mod Costs
 mod Eights
+mod Endings
 mod FrameLines
 mod LegacyLengths
 mod LegacyLines

@@ -6,5 +6,6 @@ pub mod Legacy
 pub mod Mapped
 pub mod Sizes
 pub mod Symbols
+pub mod Walking
 pub mod Weighed
 pub mod Written

@@ -1,5 +1,5 @@
 -- What calls promise that write a text or a file for an input in memory.
-use Rattle.std.specs.Prelude.{◌≡◌, ◌⊎◌, ◌↔◌, ℕ, ◌≤◌, List, ◌++◌, drop, length, Option, Some, Result, Ok, Err}
+use Rattle.std.specs.Prelude.{◌≡◌, ◌≢◌, ◌⊎◌, ◌↔◌, ℕ, ◌<◌, ◌≤◌, List, ◌++◌, drop, length, Option, None, Some, Result, Ok, Err}
 use Rattle.ht_io.specs.Kinds.{number_of}
 use Rattle.ht_io.specs.declared.faults.FormatFault.{FormatFault}
 use Rattle.ht_runs.specs.Filters.{Conversion, Filter}
@@ -64,6 +64,16 @@ module _ (room room' : List ℕ) (size size' : ℕ) (refusal refusal' : Mizgaure
   Handed (Err Write) = SaysNoMemory
   Handed (Err NoMemory) = SaysNoMemory
 
-  -- a run over the input comes to something, and that is handed over
-  abbrev pub Answers : Making → List ℕ → Type 0
-  Answers f input = (run : Result (List ℕ) RunFault) × Ran f input run × Handed run
+  -- A run over the input comes to something, and that is handed over. Memory may run out at any input, and then the answer is 1.
+  -- Else the input alone decides: the output of a whole input fits or doesn't, and any other input is refused. At a fault the room is
+  -- as it was, and its length never changes.
+  pub record Answers (f : Making) (input : List ℕ) : Type 0 where
+    pub comes : (run : Result (List ℕ) RunFault) × Ran f input run × Handed run
+    pub fault : (result ≡ 0) ⊎ (result ≡ 1) ⊎ (result ≡ 7) ⊎ (result ≡ 8)
+    pub done : (result ≡ 0) ↔ ((result ≢ 1) × f.IsInput input × (size' ≤ length room))
+    pub no_room : (result ≡ 7) ↔ ((result ≢ 1) × f.IsInput input × (length room < size'))
+    pub refused : (result ≡ 8) ↔ ((result ≢ 1) × (f.fault input ≢ None))
+    pub kept : result ≢ 0 → room' ≡ room
+    pub no_size : (result ≡ 1) ⊎ (result ≡ 8) → size' ≡ size
+    pub no_refusal : result ≢ 8 → refusal' ≡ refusal
+    pub long : length room' ≡ length room

@@ -67,6 +67,7 @@ pub extern "C" fn mizgaure_certify_job(
     ensures no_rate { (result ≡ 2) ↔ ((1 < bandwidth) ⊎ (31 < mcs)) }
     ensures fault { (result ≡ 0) ⊎ (result ≡ 1) ⊎ (result ≡ 2) ⊎ (result ≡ 7) }
     ensures kept { (result ≡ 1) ⊎ (result ≡ 2) → (found.new ≡ found.old) × (marks.new ≡ marks.old) × (size.new ≡ size.old) }
+    ensures length { length marks.new ≡ length marks.old }
     ensures value { result ≢ 1 → (rate : RateView) → rate_of bandwidth mcs ≡ Ok rate
         → PutsCertificate marks.old marks.new size.new found.old found.new result (certificate_of (job_of rate channel.now received.now)) }
 {

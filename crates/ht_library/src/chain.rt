@@ -35,6 +35,7 @@ pub extern "C" fn mizgaure_scramble(seed: u8, bits: &mut [bool]) -> u32
     ensures done { (result ≡ 0) ↔ IsSeed seed }
     ensures fault { (result ≡ 0) ⊎ (result ≡ 4) }
     ensures kept { (result ≡ 0 → ⊥) → bits.new ≡ bits.old }
+    ensures length { length bits.new ≡ length bits.old }
     ensures value { result ≡ 0 → bits.new ≡ scrambled seed bits.old }
 {
     let Some(seed) = Seed::new(seed) else {
@@ -84,6 +85,7 @@ pub extern "C" fn mizgaure_encode(
     ensures bad_length { (result ≡ 5) ↔ ((pattern ≤ 3) × (length coded.old ≢ sent_count (pattern_at pattern) (length input.now))) }
     ensures fault { (result ≡ 0) ⊎ (result ≡ 1) ⊎ (result ≡ 3) ⊎ (result ≡ 5) }
     ensures kept { (result ≡ 0 → ⊥) → coded.new ≡ coded.old }
+    ensures length { length coded.new ≡ length coded.old }
     ensures value { result ≡ 0 → coded.new ≡ sent_bits (pattern_at pattern) input.now }
 {
     let Some(pattern) = pattern_of(pattern) else {
@@ -132,6 +134,7 @@ pub extern "C" fn mizgaure_places(bandwidth: u8, mcs: u8, stream: u8, places: &m
         → (result ≡ 0) ↔ ((1 ≤ stream) × (stream ≤ streams_of rate) × (length places.old ≡ stream_bits_of rate)) }
     ensures fault { (result ≡ 0) ⊎ (result ≡ 2) ⊎ (result ≡ 5) ⊎ (result ≡ 6) }
     ensures kept { (result ≡ 0 → ⊥) → places.new ≡ places.old }
+    ensures length { length places.new ≡ length places.old }
     ensures value { result ≡ 0 → (rate : RateView) → rate_of bandwidth mcs ≡ Ok rate
         → (k : ℕ) → k < length places.new → slice_index places.new k ≡ place_of rate stream k }
 {
@@ -158,6 +161,7 @@ pub extern "C" fn mizgaure_origins(bandwidth: u8, mcs: u8, stream: u8, origins: 
         → (result ≡ 0) ↔ ((1 ≤ stream) × (stream ≤ streams_of rate) × (length origins.old ≡ stream_bits_of rate)) }
     ensures fault { (result ≡ 0) ⊎ (result ≡ 2) ⊎ (result ≡ 5) ⊎ (result ≡ 6) }
     ensures kept { (result ≡ 0 → ⊥) → origins.new ≡ origins.old }
+    ensures length { length origins.new ≡ length origins.old }
     ensures value { result ≡ 0 → (rate : RateView) → rate_of bandwidth mcs ≡ Ok rate
         → (k : ℕ) → k < length origins.new → slice_index origins.new k ≡ origin_of rate stream k }
 {

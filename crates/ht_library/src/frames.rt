@@ -55,6 +55,7 @@ pub extern "C" fn mizgaure_decode(
     ensures bad_length { (result ≡ 5) ↔ ((pattern ≤ 3) × (IsCodeword (pattern_at pattern) (length input.old) (length received.now) → ⊥)) }
     ensures fault { (result ≡ 0) ⊎ (result ≡ 1) ⊎ (result ≡ 3) ⊎ (result ≡ 5) }
     ensures kept { (result ≡ 0 → ⊥) → (input.new ≡ input.old) × (distance.new ≡ distance.old) }
+    ensures length { length input.new ≡ length input.old }
     ensures value { result ≡ 0
         → IsFound place_cost (length input.new) (pattern_at pattern) (map known_at received.now) input.new distance.new }
 {
@@ -89,6 +90,7 @@ pub extern "C" fn mizgaure_soft_decode(
     ensures bad_length { (result ≡ 5) ↔ ((pattern ≤ 3) × (IsCodeword (pattern_at pattern) (length input.old) (length weights.now) → ⊥)) }
     ensures fault { (result ≡ 0) ⊎ (result ≡ 1) ⊎ (result ≡ 3) ⊎ (result ≡ 5) }
     ensures kept { (result ≡ 0 → ⊥) → (input.new ≡ input.old) × (cost.new ≡ cost.old) }
+    ensures length { length input.new ≡ length input.old }
     ensures value { result ≡ 0
         → IsFound weight_cost (length input.new) (pattern_at pattern) weights.now input.new cost.new }
 {

@@ -43,6 +43,7 @@ pub extern "C" fn mizgaure_legacy_transmit(
         → (result ≡ 5) ↔ (HasLegacyPointsOf r (length octets.now) (length points.old) → ⊥) }
     ensures fault { (result ≡ 0) ⊎ (result ≡ 1) ⊎ (result ≡ 2) ⊎ (result ≡ 4) ⊎ (result ≡ 5) }
     ensures kept { (result ≡ 0 → ⊥) → points.new ≡ points.old }
+    ensures length { length points.new ≡ length points.old }
     ensures value { result ≡ 0 → (r : LegacyRateView) → rate_of rate ≡ Some r
         → points.new ≡ sent_points (record { rate = r; seed = seed; octets = octets.now }) }
 {
@@ -97,6 +98,7 @@ pub extern "C" fn mizgaure_legacy_places(rate: u8, places: &mut [u16]) -> u32
     ensures done { (r : LegacyRateView) → rate_of rate ≡ Some r → (result ≡ 0) ↔ (length places.old ≡ coded_bits_of r) }
     ensures fault { (result ≡ 0) ⊎ (result ≡ 2) ⊎ (result ≡ 5) }
     ensures kept { (result ≡ 0 → ⊥) → places.new ≡ places.old }
+    ensures length { length places.new ≡ length places.old }
     ensures value { result ≡ 0 → (r : LegacyRateView) → rate_of rate ≡ Some r
         → (k : ℕ) → k < length places.new → slice_index places.new k ≡ place_of r k }
 {
@@ -117,6 +119,7 @@ pub extern "C" fn mizgaure_legacy_origins(rate: u8, origins: &mut [u16]) -> u32
     ensures done { (r : LegacyRateView) → rate_of rate ≡ Some r → (result ≡ 0) ↔ (length origins.old ≡ coded_bits_of r) }
     ensures fault { (result ≡ 0) ⊎ (result ≡ 2) ⊎ (result ≡ 5) }
     ensures kept { (result ≡ 0 → ⊥) → origins.new ≡ origins.old }
+    ensures length { length origins.new ≡ length origins.old }
     ensures value { result ≡ 0 → (r : LegacyRateView) → rate_of rate ≡ Some r
         → (k : ℕ) → k < length origins.new → slice_index origins.new k ≡ origin_of r k }
 {
@@ -147,6 +150,7 @@ pub extern "C" fn mizgaure_legacy_pilots(symbol: u32, values: &mut [i8]) -> u32
     ensures done { (result ≡ 0) ↔ (length values.old ≡ 4) }
     ensures fault { (result ≡ 0) ⊎ (result ≡ 5) }
     ensures kept { (result ≡ 0 → ⊥) → values.new ≡ values.old }
+    ensures length { length values.new ≡ length values.old }
     ensures value { result ≡ 0 → (k : ℕ) → k < length values.new → slice_index_or values.new k (pos 0) ≡ pilot_of symbol k }
 {
     if values.len() != 4 {

@@ -40,6 +40,7 @@ pub extern "C" fn mizgaure_legacy_decode_frame(
         → (result ≡ 5) ↔ (HasLegacyLabelsOf r (length octets.old) (length labels.now) → ⊥) }
     ensures fault { (result ≡ 0) ⊎ (result ≡ 1) ⊎ (result ≡ 2) ⊎ (result ≡ 4) ⊎ (result ≡ 5) }
     ensures kept { (result ≡ 0 → ⊥) → (octets.new ≡ octets.old) × (differences.new ≡ differences.old) }
+    ensures length { length octets.new ≡ length octets.old }
     ensures no_seed { (r : LegacyRateView) → rate_of rate ≡ Some r → HasLegacyLabelsOf r (length octets.old) (length labels.now) → result ≢ 1
         → (result ≡ 4) ↔ ((legacy_decoded_frame r (length octets.old) labels.now).outcome ≡ SeedZero) }
     ensures value { result ≡ 0 → (r : LegacyRateView) → rate_of rate ≡ Some r

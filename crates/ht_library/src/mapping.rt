@@ -72,6 +72,7 @@ pub extern "C" fn mizgaure_points(bits: u8, labels: &[u8], points: &mut [Point])
         → (result ≡ 10) ↔ (AreLabels m labels.now → ⊥) }
     ensures fault { (result ≡ 0) ⊎ (result ≡ 5) ⊎ (result ≡ 9) ⊎ (result ≡ 10) }
     ensures kept { (result ≡ 0 → ⊥) → points.new ≡ points.old }
+    ensures length { length points.new ≡ length points.old }
     ensures value { result ≡ 0 → (m : ModulationView) → modulation_at bits ≡ Some m → ArePointsBelow (length points.new) m labels.now points.new }
 {
     let Some(modulation) = modulation_of(bits) else {
@@ -130,6 +131,7 @@ pub extern "C" fn mizgaure_labels(bits: u8, points: &[Point], labels: &mut [u8])
         → (result ≡ 11) ↔ (ArePointsOn m points.now → ⊥) }
     ensures fault { (result ≡ 0) ⊎ (result ≡ 5) ⊎ (result ≡ 9) ⊎ (result ≡ 11) }
     ensures kept { (result ≡ 0 → ⊥) → labels.new ≡ labels.old }
+    ensures length { length labels.new ≡ length labels.old }
     ensures value { result ≡ 0 → (m : ModulationView) → modulation_at bits ≡ Some m → AreLabelsBelow (length labels.new) m points.now labels.new }
 {
     let Some(modulation) = modulation_of(bits) else {
@@ -173,6 +175,7 @@ pub extern "C" fn mizgaure_pilots(
         → (result ≡ 0) ↔ ((1 ≤ stream) × (stream ≤ streams_of rate) × (length values.old ≡ pilots_of rate)) }
     ensures fault { (result ≡ 0) ⊎ (result ≡ 2) ⊎ (result ≡ 5) ⊎ (result ≡ 6) }
     ensures kept { (result ≡ 0 → ⊥) → values.new ≡ values.old }
+    ensures length { length values.new ≡ length values.old }
     ensures value { result ≡ 0 → (rate : RateView) → rate_of bandwidth mcs ≡ Ok rate
         → (k : ℕ) → k < length values.new → slice_index_or values.new k (pos 0) ≡ pilot_of rate symbol k stream }
 {

@@ -39,6 +39,7 @@ pub extern "C" fn mizgaure_lay(
         → (result ≡ 5) ↔ (AreSymbolBits rate (length bits.old) (length first.now) (length second.now) → ⊥) }
     ensures fault { (result ≡ 0) ⊎ (result ≡ 1) ⊎ (result ≡ 2) ⊎ (result ≡ 5) }
     ensures kept { (result ≡ 0 → ⊥) → bits.new ≡ bits.old }
+    ensures length { length bits.new ≡ length bits.old }
     ensures value { result ≡ 0 → (rate : RateView) → rate_of bandwidth mcs ≡ Ok rate → IsLaid rate bits.new first.now second.now }
 {
     let Ok(rate) = Rate::of(bandwidth, mcs) else {
@@ -69,6 +70,7 @@ pub extern "C" fn mizgaure_gather(
         → (result ≡ 5) ↔ (AreSymbolBits rate (length bits.now) (length first.old) (length second.old) → ⊥) }
     ensures fault { (result ≡ 0) ⊎ (result ≡ 1) ⊎ (result ≡ 2) ⊎ (result ≡ 5) }
     ensures kept { (result ≡ 0 → ⊥) → (first.new ≡ first.old) × (second.new ≡ second.old) }
+    ensures length { (length first.new ≡ length first.old) × (length second.new ≡ length second.old) }
     ensures value { result ≡ 0 → (rate : RateView) → rate_of bandwidth mcs ≡ Ok rate → IsLaid rate bits.now first.new second.new }
 {
     let Ok(rate) = Rate::of(bandwidth, mcs) else {

@@ -60,6 +60,7 @@ pub extern "C" fn mizgaure_transmit(
         → (result ≡ 5) ↔ (HasPointsOf rate (length octets.now) (length points.old) → ⊥) }
     ensures fault { (result ≡ 0) ⊎ (result ≡ 1) ⊎ (result ≡ 2) ⊎ (result ≡ 4) ⊎ (result ≡ 5) }
     ensures kept { (result ≡ 0 → ⊥) → points.new ≡ points.old }
+    ensures length { length points.new ≡ length points.old }
     ensures value { result ≡ 0 → (rate : RateView) → rate_of bandwidth mcs ≡ Ok rate
         → IsTransmitted (record { rate = rate; seed = seed; octets = octets.now })
         (record { rate = rate; length = length octets.now; points = points.new }) }
@@ -107,6 +108,7 @@ pub extern "C" fn mizgaure_decode_frame(
         → (result ≡ 5) ↔ (HasFrameOf rate (length octets.old) 1 (length labels.now) → ⊥) }
     ensures fault { (result ≡ 0) ⊎ (result ≡ 1) ⊎ (result ≡ 2) ⊎ (result ≡ 4) ⊎ (result ≡ 5) }
     ensures kept { (result ≡ 0 → ⊥) → (octets.new ≡ octets.old) × (differences.new ≡ differences.old) }
+    ensures length { length octets.new ≡ length octets.old }
     ensures no_seed { (rate : RateView) → rate_of bandwidth mcs ≡ Ok rate → HasFrameOf rate (length octets.old) 1 (length labels.now)
         → result ≢ 1
         → (result ≡ 4) ↔ ((decoded_frame rate (length octets.old) (erased_low + 2 ^ 64 * erased_high) labels.now).outcome ≡ SeedZero) }
@@ -151,6 +153,7 @@ pub extern "C" fn mizgaure_soft_frame(
         → (result ≡ 5) ↔ (HasFrameOf rate (length octets.old) (label_bits_of rate) (length weights.now) → ⊥) }
     ensures fault { (result ≡ 0) ⊎ (result ≡ 1) ⊎ (result ≡ 2) ⊎ (result ≡ 4) ⊎ (result ≡ 5) }
     ensures kept { (result ≡ 0 → ⊥) → (octets.new ≡ octets.old) × (cost.new ≡ cost.old) }
+    ensures length { length octets.new ≡ length octets.old }
     ensures no_seed { (rate : RateView) → rate_of bandwidth mcs ≡ Ok rate → HasFrameOf rate (length octets.old) (label_bits_of rate) (length weights.now)
         → result ≢ 1
         → (result ≡ 4) ↔ ((soft_decoded_frame rate (length octets.old) (erased_low + 2 ^ 64 * erased_high) weights.now).outcome ≡ SeedZero) }

@@ -1,5 +1,6 @@
 //! The detector over whole symbols: what is found for each data subcarrier, its labels, and the sums of the squared distances.
-ghost use Rattle.std.specs.Prelude.{◌≡◌, ◌⊎◌, ◌↔◌, ◌+◌, ◌*◌, ◌<◌, ◌≤◌, ◌^◌, ℕ, length, map, slice_index, slice_index_or, take, true, Ok, IsTrue};
+ghost use Rattle.std.specs.Prelude.{◌≡◌, ◌⊎◌, ◌↔◌, ◌+◌, ◌*◌, ◌<◌, ◌≤◌, ◌^◌, ℕ, length, map, slice_index, slice_index_or, take};
+ghost use Rattle.std.specs.Prelude.{true, Ok, IsTrue};
 ghost use Rattle.ht_rate.specs.Rates.{modulation_of, rate_of, streams_of};
 ghost use Rattle.ht_rate.specs.declared.rates.Rate.{Rate as RateView};
 ghost use Rattle.ht_map.specs.Constellation.{grid_of};
@@ -10,9 +11,8 @@ ghost use Rattle.ht_rounding.specs.Labels.{IsLabelled, labels_in};
 ghost use Rattle.ht_rounding.specs.Loading.{AreBelow, no_job};
 ghost use Rattle.ht_rate.specs.declared.kinds.Modulation.{Modulation as ModulationView};
 ghost use Rattle.ht_library.specs.Detected.{job_at};
-ghost use Rattle.ht_library.specs.Symbols.{AreFoundFrom, AreHits, AreHitsBelow, AreLabelsBelow, AreLabelsOf};
-ghost use Rattle.ht_library.specs.Symbols.{AreAnswered, AreSummed, AreSums, AreSymbols, HasRoom, IsDistance};
-ghost use Rattle.ht_library.specs.Symbols.{IsEmptyOr, found_at, no_distance};
+ghost use Rattle.ht_library.specs.Symbols.{AreHits, AreLabelsOf, AreSums, AreSymbols, IsDistance, IsEmptyOr, found_at, no_distance};
+ghost use Rattle.ht_library.specs.Walking.{AreAnswered, AreFoundFrom, AreHitsBelow, AreLabelsBelow, AreSummed, HasRoom};
 
 use crate::crossing::{MizgaureChannel, MizgaureDistance, MizgaureHit, MizgaureReceived};
 use crate::detection::{hit_of, job_at};
@@ -573,6 +573,9 @@ fn answer_all(
     ensures hits { AreHits (found_at rate.now channels.now received.now) hits.new }
     ensures labels { AreLabelsOf (modulation_of rate.now) (streams_of rate.now) (found_at rate.now channels.now received.now) labels.new }
     ensures sums { AreSums (length channels.now) (found_at rate.now channels.now received.now) sums.new }
+    ensures hits_length { length hits.new ≡ length hits.old }
+    ensures labels_length { length labels.new ≡ length labels.old }
+    ensures sums_length { length sums.new ≡ length sums.old }
 {
     let grid = grid(rate);
     let eights = if rate.streams() > 1 {
@@ -668,6 +671,7 @@ pub extern "C" fn mizgaure_detect_symbols(
     ensures kept_hits { (result ≡ 0 → ⊥) → hits.new ≡ hits.old }
     ensures kept_labels { (result ≡ 0 → ⊥) → labels.new ≡ labels.old }
     ensures kept_sums { (result ≡ 0 → ⊥) → sums.new ≡ sums.old }
+    ensures length { (length hits.new ≡ length hits.old) × (length labels.new ≡ length labels.old) × (length sums.new ≡ length sums.old) }
     ensures hits { result ≡ 0 → (rate : RateView) → rate_of bandwidth mcs ≡ Ok rate → AreHits (found_at rate channels.now received.now) hits.new }
     ensures labels { result ≡ 0 → (rate : RateView) → rate_of bandwidth mcs ≡ Ok rate
         → AreLabelsOf (modulation_of rate) (streams_of rate) (found_at rate channels.now received.now) labels.new }

@@ -62,6 +62,7 @@ pub extern "C" fn mizgaure_weigh_symbols(
         → (result ≡ 5) ↔ (AreWeighed rate (length channels.now) (length received.now) (length weights.old) → ⊥) }
     ensures fault { (result ≡ 0) ⊎ (result ≡ 2) ⊎ (result ≡ 5) }
     ensures kept { (result ≡ 0 → ⊥) → weights.new ≡ weights.old }
+    ensures length { length weights.new ≡ length weights.old }
     ensures value { result ≡ 0 → (rate : RateView) → rate_of bandwidth mcs ≡ Ok rate
         → AreWeights (length weights.new) rate channels.now received.now weights.new }
 {

@@ -1,5 +1,5 @@
 use Rattle.std.proofs.Common.{◌≡◌, ◌*◌, length}
-use Rattle.ht_library.specs.Symbols.{AreAnswered}
+use Rattle.ht_library.specs.Walking.{AreAnswered}
 use Rattle.ht_library.proofs.symbols.answer_eights.Given as goal
 
 abbrev pub invariant-loop-eight : goal.invariant-loop-eight

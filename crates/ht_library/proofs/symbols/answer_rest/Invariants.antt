@@ -1,5 +1,5 @@
 use Rattle.std.proofs.Common.{◌≡◌, length}
-use Rattle.ht_library.specs.Symbols.{AreAnswered}
+use Rattle.ht_library.specs.Walking.{AreAnswered}
 use Rattle.ht_library.proofs.symbols.answer_rest.Given as goal
 
 abbrev pub invariant-loop-at : goal.invariant-loop-at
