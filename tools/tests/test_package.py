@@ -59,17 +59,19 @@ def test_archives_are_built_by_python_alone(folder, environment, tmp_path):
 
 
 def test_a_wheel_with_a_library_says_where_it_runs(folder, tmp_path):
-    """Installers take it for its platform alone, and find in it the library beside the modules and what it was made of."""
+    """Installers take it for its platform alone, and find in it the library and its header beside the modules and what it was made of."""
     if sys.version_info < (3, 11) and not importlib.util.find_spec("tomli"):
         pytest.skip("this Python has neither tomllib (3.11) nor tomli")
     (tmp_path / "library").write_bytes(b"octets of a library")
     (tmp_path / "made").write_text("mizgaure of a commit\n")
-    settings = {"library": str(tmp_path / "library"), "platform": "manylinux_2_17_x86_64", "version": str(tmp_path / "made")}
+    (tmp_path / "header").write_bytes(b"calls of a library")
+    settings = {"library": str(tmp_path / "library"), "header": str(tmp_path / "header"), "platform": "manylinux_2_17_x86_64", "version": str(tmp_path / "made")}
     calls = f"import build_backend as b; print(b.build_wheel('..', {settings!r}))"
     done = subprocess.run([sys.executable, "-c", calls], cwd=folder, capture_output=True, text=True, check=True)
     assert done.stdout == "mizgaure-0.1.0-py3-none-manylinux_2_17_x86_64.whl\n"
     with zipfile.ZipFile(tmp_path / done.stdout.strip()) as archive:
         assert archive.read("mizgaure/libmizgaure.so.0") == b"octets of a library"
+        assert archive.read("mizgaure/mizgaure.h") == b"calls of a library"
         assert archive.read("mizgaure-0.1.0.dist-info/version") == b"mizgaure of a commit\n"
         said = archive.read("mizgaure-0.1.0.dist-info/WHEEL").decode().splitlines()
     assert "Root-Is-Purelib: false" in said and "Tag: py3-none-manylinux_2_17_x86_64" in said
