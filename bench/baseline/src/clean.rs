@@ -269,7 +269,7 @@ mod tests {
             let period = crate::decoding::period(name).unwrap();
             let pattern = Pattern::new(period);
             let mut guessed = 0;
-            for (seed, wrong) in (1..40).flat_map(|seed| [0, 1000, 20_000, 300_000].map(|wrong| (seed, wrong))) {
+            for (seed, wrong) in (1..40).flat_map(|seed| [0, 1000, 5000, 20_000, 300_000].map(|wrong| (seed, wrong))) {
                 let (mut word, list) = received(period, 6 + 17 * seed as usize, wrong, seed);
                 let steps = word.steps;
                 let mut choices = vec![0; steps];

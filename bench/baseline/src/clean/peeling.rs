@@ -22,8 +22,8 @@ pub struct Peeling {
     period: usize,
     /// What leaks out of the bucket at each step.
     leak: u32,
-    /// Where it is full. A way that leaves the input and comes back after n steps differs from it at more than
-    /// (brim - leak + leak n) / 240 places, and up to the brim fewer than half as many can be wrong on it.
+    /// Where it is full. A way that leaves the input and comes back after n steps differs from it at (brim - leak + leak n) / 240
+    /// places or more, and below the brim fewer than half as many of them are wrong.
     brim: u32,
     /// How many steps may be wrong before it isn't worth while: so many, and so many of 64.
     pub most: (u32, u32),
