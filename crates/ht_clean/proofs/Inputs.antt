@@ -70,10 +70,14 @@ all-packed pattern bits words at count width width-is count-is le are =
     enough FiveSixths long count at le all = omega (arith, le, all)
 
 parts : (pattern : Pattern) (from width : ℕ) → width ≡ word_steps pattern → from ≡ from / width * word_steps pattern + from % width
-parts Half from width is = let q : from / width ≡ from / 30 = ap (λ (n : ℕ). from / n) is in let r : from % width ≡ from % 30 = ap (λ (n : ℕ). from % n) is in omega (arith, q, r)
-parts TwoThirds from width is = let q : from / width ≡ from / 40 = ap (λ (n : ℕ). from / n) is in let r : from % width ≡ from % 40 = ap (λ (n : ℕ). from % n) is in omega (arith, q, r)
-parts ThreeQuarters from width is = let q : from / width ≡ from / 45 = ap (λ (n : ℕ). from / n) is in let r : from % width ≡ from % 45 = ap (λ (n : ℕ). from % n) is in omega (arith, q, r)
-parts FiveSixths from width is = let q : from / width ≡ from / 50 = ap (λ (n : ℕ). from / n) is in let r : from % width ≡ from % 50 = ap (λ (n : ℕ). from % n) is in omega (arith, q, r)
+parts Half from width is = let q : from / width ≡ from / 30 = ap (λ (n : ℕ). from / n) is in let r : from % width ≡ from % 30 = ap
+    (λ (n : ℕ). from % n) is in omega (arith, q, r)
+parts TwoThirds from width is = let q : from / width ≡ from / 40 = ap (λ (n : ℕ). from / n) is in let r : from % width ≡ from % 40 = ap
+    (λ (n : ℕ). from % n) is in omega (arith, q, r)
+parts ThreeQuarters from width is = let q : from / width ≡ from / 45 = ap (λ (n : ℕ). from / n) is in let r : from % width ≡ from % 45 = ap
+    (λ (n : ℕ). from % n) is in omega (arith, q, r)
+parts FiveSixths from width is = let q : from / width ≡ from / 50 = ap (λ (n : ℕ). from / n) is in let r : from % width ≡ from % 50 = ap
+    (λ (n : ℕ). from % n) is in omega (arith, q, r)
 
 next-parts : (pattern : Pattern) (at : ℕ) → (at + 1) * word_steps pattern ≡ at * word_steps pattern + word_steps pattern
 next-parts Half at = omega arith

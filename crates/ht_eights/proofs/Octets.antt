@@ -1,5 +1,6 @@
 -- The labels of lanes as octets, lane by lane.
-use Rattle.std.proofs.Common.{◌≡◌, ℕ, suc, ◌+◌, ◌*◌, ◌-◌, ◌<◌, ◌≤◌, List, [], ◌∷◌, ◌++◌, drop, length, length-append, take, set, append_assoc, arith, ap, refl, sym, ◌∙◌}
+use Rattle.std.proofs.Common.{◌≡◌, ℕ, suc, ◌+◌, ◌*◌, ◌-◌, ◌<◌, ◌≤◌, List, [], ◌∷◌}
+use Rattle.std.proofs.Common.{◌++◌, drop, length, length-append, take, set, append_assoc, arith, ap, refl, sym, ◌∙◌}
 use Rattle.std.proofs.Common.{Result, Ok, Err, OnOk, if◌then◌else◌}
 use Rattle.std.specs.Result.{is_ok}
 use Rattle.std.specs.List.{flat_map, range_with_len}
@@ -127,8 +128,10 @@ lanes_part lanes octets first jobs s streams few within all =
     ∙ (ap (λ (n : ℕ). take n (here ++ (behind ++ others))) count ∙ take-append_seam here (behind ++ others))))
 
 -- and behind others
-pub lanes_behind : {T E : Type 0} (r : Result T E) (lanes : Labelled) (octets before after : List ℕ) (first jobs s a b : ℕ) → s ≡ lanes.streams → s ≤ 4 → first + jobs ≤ 8
-    → take (8 * s) octets ≡ lane_labels lanes 0 8 → a ≡ first * s → b ≡ jobs * s → after ≡ (if is_ok r then before ++ take ((a + b) - a) (drop a octets) else before)
+pub lanes_behind : {T E : Type 0} (r : Result T E) (lanes : Labelled) (octets before after : List ℕ) (first jobs s a b : ℕ) → s ≡ lanes.streams
+    → s ≤ 4 → first + jobs ≤ 8
+    → take (8 * s) octets ≡ lane_labels lanes 0 8 → a ≡ first * s → b ≡ jobs * s
+    → after ≡ (if is_ok r then before ++ take ((a + b) - a) (drop a octets) else before)
     → OnOk r (after ≡ before ++ lane_labels lanes first jobs)
 lanes_behind (Ok x) lanes octets before after first jobs s a b streams few within all start count is =
     is

@@ -33,7 +33,10 @@ fn octet_at(pattern: Pattern, two: bool, first: &[u64], second: &[u64], octets: 
     ensures { (k : ℕ) → k < 8 → flag result k ≡ word_bit pattern two first.now second.now (8 * at + k) }
 {
     if two {
-        in_turns(eight_bits(pattern, first, 4 * at), eight_bits(pattern, second, 4 * at))
+        in_turns(
+            eight_bits(pattern, first, 4 * at),
+            eight_bits(pattern, second, 4 * at),
+        )
     } else {
         eight_bits(pattern, first, 8 * at)
     }
@@ -120,10 +123,26 @@ fn octets_of_words(
             octets_by(alloc, Pattern::TwoThirds, two, first, second, octets, seven)
         }
         Pattern::ThreeQuarters => {
-            octets_by(alloc, Pattern::ThreeQuarters, two, first, second, octets, seven)
+            octets_by(
+                alloc,
+                Pattern::ThreeQuarters,
+                two,
+                first,
+                second,
+                octets,
+                seven,
+            )
         }
         Pattern::FiveSixths => {
-            octets_by(alloc, Pattern::FiveSixths, two, first, second, octets, seven)
+            octets_by(
+                alloc,
+                Pattern::FiveSixths,
+                two,
+                first,
+                second,
+                octets,
+                seven,
+            )
         }
     }
 }

@@ -1,5 +1,6 @@
 -- Numbers of eight subcarriers in lanes.
-use Rattle.std.proofs.Common.{◌≡◌, ℕ, ℤ, ◌+◌, ◌-◌, ◌*◌, ◌^◌, ◌<◌, ◌≤◌, List, [], ◌∷◌, Bool, true, false, cond, leb, ltb, nat_eq, drop, map, replicate, length, get_or}
+use Rattle.std.proofs.Common.{◌≡◌, ℕ, ℤ, ◌+◌, ◌-◌, ◌*◌, ◌^◌, ◌<◌, ◌≤◌, List, [], ◌∷◌}
+use Rattle.std.proofs.Common.{Bool, true, false, cond, leb, ltb, nat_eq, drop, map, replicate, length, get_or}
 use Rattle.std.proofs.Common.{slice_index, slice_index_or, refl, sym, ap, subst, ◌∙◌, arith, w32}
 use lib.Lanes.{zip2, sel_l, top}
 use mir.Syntax.{Width}

@@ -41,8 +41,10 @@ loop-k-preserved g c =
     let more = c.if-jobs-most.false in
     let most = c.from-most.ensures in
     let inside_run : so_far < c.data_run.result = omega (arith, more, most) in
-    let carries : g.K.Kind.plan.kind head c.place_at.result.carrier ≡ Data (m + so_far) = ap (λ (n : ℕ). g.K.Kind.plan.kind head n) (c.if-not-is_behind.ensures.carrier refl) ∙ c.data_run.ensures m so_far kind inside_run in
-    let run = run_more g.K.Kind.plan head (g.K.LabelKind.modulation_in head) (g.met.K.LabelKind.labels head) lanes jobs (c.args.at + first) first so_far l.k (c.args.at + l.k) symbol m l.distance e c.place_at.result
+    let carries : g.K.Kind.plan.kind head c.place_at.result.carrier ≡ Data (m + so_far) = ap (λ (n : ℕ). g.K.Kind.plan.kind head n)
+    (c.if-not-is_behind.ensures.carrier refl) ∙ c.data_run.ensures m so_far kind inside_run in
+    let run = run_more g.K.Kind.plan head (g.K.LabelKind.modulation_in head) (g.met.K.LabelKind.labels head) lanes jobs
+    (c.args.at + first) first so_far l.k (c.args.at + l.k) symbol m l.distance e c.place_at.result
     c.requires.streams c.requires.most lane index inside c.distance_in-distance.ensures.value (omega (arith, few)) (c.if-not-is_sure.ensures refl)
     (c.if-not-is_behind.ensures.symbol refl) carries c.place_at.ensures
     (c.requires.labels l.k under) l.invariant.is in
