@@ -8,7 +8,7 @@ use Rattle.ht_rate.specs.declared.kinds.Carrier.{Carrier}
 use Rattle.ht_rate.specs.declared.kinds.Carrier.TheVariants.{Data, Pilot}
 use Rattle.ht_rate.specs.declared.rates.Rate.{Rate}
 use Rattle.ht_rate.specs.Carriers.{carrier_at, carrier_of}
-use Rattle.ht_rate.specs.Rates.{bandwidth_of, carriers_of}
+use Rattle.ht_rate.specs.Rates.{bandwidth_of, carriers_of, data_carriers_of, pilots_of}
 use Rattle.ht_rate.specs.Schemes.{data_count, pilot_count}
 use Rattle.ht_results.specs.Captured.{kind_of}
 use Rattle.ht_eights.specs.DataRuns.{IsDataRun}
@@ -100,3 +100,7 @@ runs_in r b c n is lt run ends m k here below =
 -- none
 pub runs_none : (kind : ℕ → Carrier) (c n : ℕ) → n ≡ 0 → IsDataRun kind c n
 runs_none kind c n is m k here below = absurd (omega (arith, is, below))
+
+-- a subcarrier that the rate has is one of its bandwidth
+pub below : (r : Rate) (b : Bandwidth) (c : ℕ) → b ≡ bandwidth_of r → c < carriers_of r → c < count_of b
+below r b c is lt = subst (λ (n : ℕ). c < n) (count_is r b is) lt
