@@ -22,13 +22,16 @@ use std::marker::PhantomData;
 #[derive(Drop)]
 pub struct LaneWork<'g, K, G> {
     alloc: Global,
-    gate: &'g G,
+    /// What is called before and after each job.
+    pub gate: &'g G,
     kind: PhantomData<K>,
 }
 
 impl<'g, K, G> LaneWork<'g, K, G> {
     /// A work that takes memory for labels here, and calls this before and after each job.
-    pub fn new(alloc: Global, gate: &'g G) -> LaneWork<'g, K, G> {
+    pub fn new(alloc: Global, gate: &'g G) -> LaneWork<'g, K, G>
+        ensures { result.gate.now ≡ gate.now }
+    {
         LaneWork {
             alloc,
             gate,
