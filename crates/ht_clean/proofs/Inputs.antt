@@ -1,17 +1,18 @@
 -- Input bits that are put into words, and read from them.
 use Rattle.std.proofs.Common.{◌≡◌, ◌∙◌, inl, inr, ℕ, ◌+◌, ◌-◌, ◌*◌, ◌/◌, ◌%◌, ◌^◌, ◌<◌, ◌≤◌, List, Bool, true, false, length, get_or, min}
-use Rattle.std.proofs.Common.{refl, ap, sym, arith, ◌==◌, ◌||◌}
-use Rattle.std.specs.Int.{bit_at, div_ceil, from_bool}
-use Rattle.std.specs.Int.RustNames.{bit_and, bit_or}
+use Rattle.std.proofs.Common.{refl, ap, subst, sym, arith, ◌==◌, ◌||◌}
+use Rattle.std.specs.Int.{div_ceil, from_bool}
+use Rattle.std.specs.Int.RustNames.{bit_or}
 use Rattle.std.proofs.lemmas.Bool.{cases_lt}
 use Rattle.std.proofs.lemmas.List.{ext_get_or}
+use Rattle.std.proofs.Math.Nat.{mul_comm}
+use Rattle.std.proofs.lemmas.Nat.{div-add-mod'}
 use Rattle.std.proofs.lemmas.Nat.Bits.{bit_at_above}
 use Rattle.ht_rate.specs.declared.kinds.Pattern.{Pattern}
-use Rattle.ht_rate.specs.declared.kinds.Pattern.TheVariants.{Half, TwoThirds, ThreeQuarters, FiveSixths}
 use Rattle.ht_viterbi.specs.Packed.{flag, word_steps}
 use Rattle.ht_clean.specs.Sparse.{input_bit, unpacked}
-use Rattle.ht_clean.proofs.Flags.{cut, flag-or, flag-shl, flag-shl-low, flag-shr, or-none}
-use Rattle.ht_clean.proofs.Words.{bit-in, unpacked-at, unpacked-length}
+use Rattle.ht_clean.proofs.Flags.{flag-or, flag-shl, flag-shl-low, flag-shr, or-none}
+use Rattle.ht_clean.proofs.Words.{bit-in, next-word, unpacked-at, unpacked-length, words-cover}
 
 one-bit : (b : Bool) → flag (from_bool b) 0 ≡ b
 one-bit false = refl
@@ -43,47 +44,23 @@ bit-behind word value place k bit few after value-is none =
     bit-on word value place k few (omega (arith, after)) none
     ∙ (ap (λ (n : ℕ). flag n (k - place)) value-is ∙ no-more bit (k - place) (omega (arith, after)))
 
-all-words : (pattern : Pattern) (long count width : ℕ) → width ≡ word_steps pattern → count ≡ div_ceil long width → long ≤ count * word_steps pattern
-all-words Half long count width width-is count-is = let e : count ≡ div_ceil long 30 = count-is ∙ ap (div_ceil long) width-is in omega (arith, e)
-all-words TwoThirds long count width width-is count-is = let e : count ≡ div_ceil long 40 = count-is ∙ ap (div_ceil long) width-is in omega (arith, e)
-all-words ThreeQuarters long count width width-is count-is = let e : count ≡ div_ceil long 45 = count-is ∙ ap (div_ceil long) width-is in omega (arith, e)
-all-words FiveSixths long count width width-is count-is = let e : count ≡ div_ceil long 50 = count-is ∙ ap (div_ceil long) width-is in omega (arith, e)
-
 -- all bits are in the words
 pub all-packed : (pattern : Pattern) (bits : List Bool) (words : List ℕ) (at count width : ℕ) → width ≡ word_steps pattern
     → count ≡ div_ceil (length bits) width → count ≤ at
     → ((k : ℕ) → k < min (at * word_steps pattern) (length bits) → input_bit pattern words k ≡ get_or bits k false)
     → unpacked pattern words (length bits) ≡ bits
 all-packed pattern bits words at count width width-is count-is le are =
-    let all : length bits ≤ count * word_steps pattern = all-words pattern (length bits) count width width-is count-is in
-    let more : length bits ≤ at * word_steps pattern = enough pattern (length bits) count at le all in
+    let all : length bits ≤ word_steps pattern * at = words-cover pattern (length bits) count width at width-is count-is le in
+    let more : length bits ≤ at * word_steps pattern = omega (arith, all, mul_comm (word_steps pattern) at) in
     let long : length (unpacked pattern words (length bits)) ≡ length bits = unpacked-length pattern words (length bits) in
     ext_get_or false (unpacked pattern words (length bits)) bits long
     (λ k lt.
     let low : k < length bits = omega (arith, lt, long) in
     unpacked-at pattern words (length bits) k low ∙ are k (omega (arith, low, more)))
-  where
-    enough : (pattern : Pattern) (long count at : ℕ) → count ≤ at → long ≤ count * word_steps pattern → long ≤ at * word_steps pattern
-    enough Half long count at le all = omega (arith, le, all)
-    enough TwoThirds long count at le all = omega (arith, le, all)
-    enough ThreeQuarters long count at le all = omega (arith, le, all)
-    enough FiveSixths long count at le all = omega (arith, le, all)
 
 parts : (pattern : Pattern) (from width : ℕ) → width ≡ word_steps pattern → from ≡ from / width * word_steps pattern + from % width
-parts Half from width is = let q : from / width ≡ from / 30 = ap (λ (n : ℕ). from / n) is in let r : from % width ≡ from % 30 = ap
-    (λ (n : ℕ). from % n) is in omega (arith, q, r)
-parts TwoThirds from width is = let q : from / width ≡ from / 40 = ap (λ (n : ℕ). from / n) is in let r : from % width ≡ from % 40 = ap
-    (λ (n : ℕ). from % n) is in omega (arith, q, r)
-parts ThreeQuarters from width is = let q : from / width ≡ from / 45 = ap (λ (n : ℕ). from / n) is in let r : from % width ≡ from % 45 = ap
-    (λ (n : ℕ). from % n) is in omega (arith, q, r)
-parts FiveSixths from width is = let q : from / width ≡ from / 50 = ap (λ (n : ℕ). from / n) is in let r : from % width ≡ from % 50 = ap
-    (λ (n : ℕ). from % n) is in omega (arith, q, r)
-
-next-parts : (pattern : Pattern) (at : ℕ) → (at + 1) * word_steps pattern ≡ at * word_steps pattern + word_steps pattern
-next-parts Half at = omega arith
-next-parts TwoThirds at = omega arith
-next-parts ThreeQuarters at = omega arith
-next-parts FiveSixths at = omega arith
+parts pattern from width is =
+    subst (λ (w : ℕ). from ≡ from / w * word_steps pattern + from % w) (sym is) (sym (div-add-mod' from (word_steps pattern)))
 
 -- a bit of the word in which the first of eight stands
 pub here-is : (pattern : Pattern) (words : List ℕ) (from width k : ℕ) → width ≡ word_steps pattern → from % width + k < width
@@ -98,7 +75,7 @@ pub next-is : (pattern : Pattern) (words : List ℕ) (from width k : ℕ) → wi
     → flag (get_or words (from / width + 1) 0) (k - (width - from % width)) ≡ input_bit pattern words (from + k)
 next-is pattern words from width k is high lt =
     let whole = parts pattern from width is in
-    let step = next-parts pattern (from / width) in
+    let step = next-word pattern (from / width) in
     sym (bit-in pattern words (from / width + 1) (k - (width - from % width)) (from + k) (omega (arith, high, lt, is)) (omega (arith, whole, step, is, high)))
 
 -- eight bits out of two words

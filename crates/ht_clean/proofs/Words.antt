@@ -244,7 +244,7 @@ input-within TwoThirds steps at count lt all = omega (arith, lt, all)
 input-within ThreeQuarters steps at count lt all = omega (arith, lt, all)
 input-within FiveSixths steps at count lt all = omega (arith, lt, all)
 
-next-word : (pattern : Pattern) (at : ℕ) → (at + 1) * word_steps pattern ≡ at * word_steps pattern + word_steps pattern
+pub next-word : (pattern : Pattern) (at : ℕ) → (at + 1) * word_steps pattern ≡ at * word_steps pattern + word_steps pattern
 next-word Half at = omega arith
 next-word TwoThirds at = omega arith
 next-word ThreeQuarters at = omega arith

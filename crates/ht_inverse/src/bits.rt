@@ -33,11 +33,8 @@ fn first_seven(bits: &[bool]) -> [bool; 7]
     ]
 }
 
-/// What scrambled bits come to: the 16 of SERVICE, and eight of each octet. They are descrambled where they stand. The only
-/// refusal is lack of memory.
-///
-/// IEEE Std 802.11-2012, clauses 18.3.5.2 and 18.3.5.5.
-pub fn come_to(alloc: Global, bits: &mut [bool]) -> Result<Outcome, AllocError>
+// What scrambled bits come to: the 16 of SERVICE, and eight of each octet. They are descrambled where they stand.
+fn come_to(alloc: Global, bits: &mut [bool]) -> Result<Outcome, AllocError>
     requires service { 16 ≤ length bits.old }
     requires octets { (length bits.old - 16) % 8 ≡ 0 }
     ensures { IfOk result (λ outcome. outcome ≡ outcome_of bits.old) }

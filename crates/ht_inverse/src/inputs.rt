@@ -168,8 +168,8 @@ pub(crate) fn words_come_to(
     Ok(Outcome::Octets(Octets::from(found)))
 }
 
-/// What the input of a frame's only encoder comes to, in words: the 16 bits of SERVICE, and eight of each octet. The only
-/// refusal is lack of memory.
+/// What the input of a frame's only encoder comes to: the 16 bits of SERVICE, and eight of each octet. The words hold it as
+/// [`PackedInput`](ht_clean::PackedInput) does. The only refusal is lack of memory.
 ///
 /// IEEE Std 802.11-2012, clauses 18.3.5.2 and 18.3.5.5.
 pub fn input_comes_to(

@@ -21,9 +21,12 @@
 //! threads, as [`decode_frame_together`] does. All answer `decoded_frame` of `specs/Decoding.antt`, a function with no
 //! loop of the code in it. The laws of [`laws`] say that what was sent comes back.
 //!
+//! The inputs stay in words up to the octets: eight bits are read at a time, of two inputs in turns, and the next octet of the
+//! scrambling sequence is added. [`input_comes_to`] does so for the only input of a clause 18 frame.
+//!
 //! A decoder that knows more of a label bit than the label says has the same parts: a [`Share`] gathers what is known of
 //! an encoder's coded bits from any values, one for each label bit, a [`Table`] has the shares of all encoders, and
-//! [`inputs_come_to`] takes their inputs to octets.
+//! [`inputs_come_to`] takes their inputs to octets, as lists of bits.
 #![tactic(auto)]
 
 mod bits;
@@ -42,7 +45,7 @@ mod table;
 mod together;
 mod words;
 
-pub use bits::{come_to, inputs_come_to};
+pub use bits::inputs_come_to;
 pub use decoded::Decoded;
 pub use decoder::{Alone, Decoder, decode_frame};
 pub use inputs::input_comes_to;

@@ -1,4 +1,4 @@
-use Rattle.std.proofs.Common.{◌≡◌, ◌∙◌, ◌+◌, ◌%◌, ◌<◌, arith}
+use Rattle.std.proofs.Common.{◌∙◌, ◌%◌, ◌<◌, arith}
 use Rattle.std.proofs.Common.{mod-lt}
 use Rattle.ht_clean.proofs.Flags.{flag-shr}
 use Rattle.ht_clean.proofs.Inputs.{across, here-is}

@@ -1,4 +1,4 @@
-use Rattle.std.proofs.Common.{ℕ, ◌+◌, ◌-◌, ◌*◌, ◌∙◌, ap, sym}
+use Rattle.std.proofs.Common.{ℕ, ◌+◌, ◌-◌, ◌*◌, ◌∙◌, ap}
 use Rattle.ht_rate.specs.Rates.{encoders_of, pattern_of, steps_of}
 use Rattle.ht_inverse.specs.declared.decoded.Decoded.{Decoded}
 use Rattle.ht_inverse.specs.declared.outcome.Outcome.{Outcome}

@@ -1,7 +1,5 @@
-use Rattle.std.proofs.Common.{◌≡◌, ◌∙◌, ◌+◌, ◌*◌, ◌≤◌, ℕ, Bool, true, false, ap, arith, length, subst, sym}
-use Rattle.ht_viterbi.specs.Packed.{word_steps}
+use Rattle.std.proofs.Common.{◌∙◌, ◌+◌, ◌*◌, Bool, ap, arith, subst, sym}
 use Rattle.ht_inverse.specs.Words.{Hold, word_bit}
-use Rattle.ht_viterbi.specs.Packed.{flag}
 use Rattle.ht_inverse.proofs.Descrambled.{turned-at}
 use Rattle.ht_inverse.proofs.inputs.octet_at.Goals as goal
 

@@ -1,8 +1,6 @@
-use Rattle.std.proofs.Common.{◌≡◌, ◌∙◌, ◌+◌, ◌*◌, ℕ, inl, inr, ap, arith, get_or, subst, sym, slice_index_or}
-use mathlib.Core.Bool.{xor}
-use Rattle.std.proofs.lemmas.Bool.{cases_lt}
-use Rattle.ht_scramble.specs.Sequence.{seed_of, sequence}
-use Rattle.ht_inverse.specs.Words.{HasSequence, first_bits, word_bit}
+use Rattle.std.proofs.Common.{◌≡◌, ◌∙◌, ◌+◌, ◌*◌, ℕ, arith, subst}
+use Rattle.ht_scramble.specs.Sequence.{seed_of}
+use Rattle.ht_inverse.specs.Words.{HasSequence, first_bits}
 use Rattle.ht_inverse.proofs.Descrambled.{descrambled, octets-are, one-more, small-more}
 use Rattle.ht_inverse.proofs.Marked.{longer}
 use Rattle.ht_inverse.proofs.inputs.octets_by.Goals as goal

@@ -3,7 +3,6 @@ use Rattle.std.proofs.lemmas.List.{length-map}
 use Rattle.std.proofs.lemmas.Result.{IfOk-weaker}
 use Rattle.ht_rate.specs.declared.kinds.Pattern.{Pattern}
 use Rattle.ht_rate.specs.Rates.{pattern_of}
-use Rattle.ht_viterbi.specs.Inputs.{IsFound, place_cost}
 use Rattle.ht_viterbi.specs.Packed.{word_steps}
 use Rattle.ht_viterbi.specs.declared.codeword.Codeword.{Codeword}
 use Rattle.ht_viterbi.specs.declared.received_bit.ReceivedBit.{ReceivedBit}
@@ -47,8 +46,8 @@ returns-clause-found c =
     (λ q input distance.
     let same : u.input ≡ unpacked (pattern_of r) q.words.items steps =
     sym input
-    ∙ (ap (λ (n : ℕ). unpacked p q.words.items n) c.in_ok-codeword.ensures.steps ∙ ap
-    (λ (z : Pattern). unpacked z q.words.items steps) c.pattern-pattern.ensures) in
+    ∙ (ap (λ (n : ℕ). unpacked p q.words.items n) c.in_ok-codeword.ensures.steps
+    ∙ ap (λ (z : Pattern). unpacked z q.words.items steps) c.pattern-pattern.ensures) in
     subst (λ (n : ℕ). IsNearest r octets s.erased labels s.encoder steps (made (unpacked (pattern_of r) q.words.items steps) n)) (sym distance)
     (subst (λ (v : List Bool). IsNearest r octets s.erased labels s.encoder steps (made v u.distance)) same nearest))
     c.of.ensures.input c.of.ensures.distance
