@@ -11,6 +11,7 @@ use Rattle.ht_pam.specs.declared.axes.Axes.{Axes}
 use Rattle.ht_pam.specs.Grids.{AreLadders, IsGrid}
 use Rattle.ht_pam.specs.Ladders.{IsLadder}
 use Rattle.ht_metric.specs.Rows.{no_sample}
+use Rattle.ht_clause18.specs.Carriers.{carrier_of}
 use Rattle.ht_clause18.specs.Rates.{modulation_of}
 use Rattle.ht_rounding.specs.declared.levels.Levels.{Levels}
 use Rattle.ht_rounding.specs.declared.levels.Levels.TheVariants.{One, Two, Four, Eight}
@@ -21,7 +22,7 @@ use Rattle.ht_rounding.specs.Labels.{i_levels, q_levels}
 use Rattle.ht_rounding.specs.Loading.{IsWord}
 use Rattle.ht_rounding.specs.Proposals.{full}
 use Rattle.ht_legacy_blocks.specs.Jobs.{SymbolView, axes_for, grid_at, job_of}
-use Rattle.ht_legacy_blocks.specs.Lanes.{IsCut, IsPlainAt}
+use Rattle.ht_legacy_blocks.specs.Lanes.{IsData}
 
 -- one more lane
 pub lanes-more : (holds : ℕ → ℕ → Type 0) (lanes : List ℕ) (k w : ℕ) → k < 8 → (length lanes ≡ 8) × ((j : ℕ) → j < k → holds j (slice_index lanes j))
@@ -64,14 +65,13 @@ one-grid m = record {
 }
 
 -- a data subcarrier is in its lane
-pub in-lane : (m : Modulation) (channel : Channel) (samples : SampleLanes) (s : SymbolView) (k c : ℕ) → modulation_of s.head.rate ≡ m → IsPlainAt s c
-    → IsCut (slice_index channel.first.diagonal k) (slice_index_or s.diagonals c 0)
+pub in-lane : (m : Modulation) (channel : Channel) (samples : SampleLanes) (s : SymbolView) (k c : ℕ) → modulation_of s.head.rate ≡ m → IsData (carrier_of c)
+    → slice_index channel.first.diagonal k ≡ slice_index_or s.diagonals c 0
     → IsWord (slice_index samples.first.re k) (slice_index_or s.samples c no_sample).re
     → IsWord (slice_index samples.first.im k) (slice_index_or s.samples c no_sample).im
     → IsInLane (i_levels m) (q_levels m) channel samples k 1 (job_of s c)
 unfolding job_of grid_at
-in-lane m channel samples s k c of plain cut re im =
-    let carries = plain.of_data in
+in-lane m channel samples s k c of carries diagonal re im =
     let grid : grid_at s.head.rate s.symbol c ≡ lane_axes (i_levels m) (q_levels m) ∷ [] =
     ap (λ (kind : Carrier). axes_for s.head.rate s.symbol kind ∷ []) carries.1 ∙ ap (λ (n : Modulation). axes_of n ∷ []) of
     ∙ ap (λ (a : Axes). a ∷ []) (all-levels m) in
@@ -81,7 +81,7 @@ in-lane m channel samples s k c of plain cut re im =
       grid = grid;
       rows = (
         record {
-          diagonal = cut.same plain.small;
+          diagonal = diagonal;
           sample = record { re = re.held; im = im.held };
           within = record { re = re.within; im = im.within };
           next = λ some. absurd (omega (arith, some));

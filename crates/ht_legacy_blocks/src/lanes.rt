@@ -9,29 +9,18 @@ ghost use Rattle.ht_rounding.specs.Labels.{IsLabelled};
 ghost use Rattle.ht_rounding.specs.Loading.{IsWord};
 ghost use Rattle.ht_rounding.specs.Proposals.{AreSmall};
 ghost use Rattle.ht_legacy_blocks.specs.Jobs.{job_of};
-ghost use Rattle.ht_legacy_blocks.specs.Lanes.{IsCut, IsData, IsPlainAt};
+ghost use Rattle.ht_legacy_blocks.specs.Lanes.{IsData};
 
 use crate::symbol::LegacySymbol;
 use ht_rate::Modulation;
 use ht_rounding::{Channel, Eight, Labelled, Parts, RowLanes, SampleLanes, label_lanes};
 use std::simd::prelude::*;
 
-// The greatest diagonal that a lane takes.
-const MOST: u32 = (1 << 14) - 1;
-
 // 1 for each subcarrier that carries data, and 0 for each pilot.
 static DATA: [u32; 52] = [
     1, 1, 1, 1, 1, 0, 1, 1, 1, 1, 1, 1, 1, 1, 1, 1, 1, 1, 1, 0, 1, 1, 1, 1, 1, 1, 1, 1, 1, 1, 1, 1,
     0, 1, 1, 1, 1, 1, 1, 1, 1, 1, 1, 1, 1, 1, 0, 1, 1, 1, 1, 1,
 ];
-
-// The diagonals of eight subcarriers, each cut at 2^14 - 1.
-#[inline(always)]
-fn cut_lanes(diagonals: u32x8) -> u32x8
-    ensures { (k : ℕ) → k < 8 → IsCut (slice_index result k) (slice_index diagonals k) }
-{
-    diagonals.simd_min(u32x8::splat(MOST))
-}
 
 // Eight words, from a place on.
 #[inline(always)]
@@ -51,35 +40,15 @@ fn data_lanes(first: u8) -> u32x8
     words_from(&DATA, usize::from(first))
 }
 
-// Eight words where a diagonal isn't cut, and 0 elsewhere.
-#[inline(always)]
-fn where_small(words: u32x8, diagonals: u32x8) -> u32x8
-    ensures words { (k : ℕ) → k < 8 → 0 < slice_index result k → 0 < slice_index words k }
-    ensures small { (k : ℕ) → k < 8 → 0 < slice_index result k → slice_index diagonals k < 2 ^ 14 }
-{
-    diagonals
-        .simd_le(u32x8::splat(MOST))
-        .select(words, u32x8::splat(0))
-}
-
-// 1 where a subcarrier carries data and its diagonal isn't cut, and 0 elsewhere, of eight subcarriers, from one on.
-#[inline(always)]
-fn plain_lanes(symbol: &LegacySymbol, first: u8) -> u32x8
-    requires { first + 8 ≤ carriers }
-    ensures { (k : ℕ) → k < 8 → 0 < slice_index result k → IsPlainAt symbol.now (first + k) }
-{
-    where_small(data_lanes(first), symbol.diagonals(first))
-}
-
 // The same where the frame's modulation is this one, and 0 everywhere where it isn't.
 #[inline(always)]
 fn plain_by(symbol: &LegacySymbol, modulation: Modulation, first: u8) -> u32x8
     requires { first + 8 ≤ carriers }
     ensures modulation { (k : ℕ) → k < 8 → 0 < slice_index result k → modulation_of symbol.now.head.rate ≡ modulation }
-    ensures plain { (k : ℕ) → k < 8 → 0 < slice_index result k → IsPlainAt symbol.now (first + k) }
+    ensures data { (k : ℕ) → k < 8 → 0 < slice_index result k → IsData (carrier_of (first + k)) }
 {
     if symbol.head().rate.modulation() == modulation {
-        plain_lanes(symbol, first)
+        data_lanes(first)
     } else {
         u32x8::splat(0)
     }
@@ -105,12 +74,12 @@ fn no_row() -> RowLanes
 fn channel(symbol: &LegacySymbol, first: u8) -> Channel
     requires { first + 8 ≤ carriers }
     ensures small { IsSmall result }
-    ensures first { (k : ℕ) → k < 8 → IsCut (slice_index result.first.diagonal k) (slice_index_or symbol.now.diagonals (first + k) 0) }
+    ensures first { (k : ℕ) → k < 8 → slice_index result.first.diagonal k ≡ slice_index_or symbol.now.diagonals (first + k) 0 }
 {
     let none = no_row();
     Channel {
         first: RowLanes {
-            diagonal: cut_lanes(symbol.diagonals(first)),
+            diagonal: symbol.diagonals(first),
             ..none
         },
         second: none,

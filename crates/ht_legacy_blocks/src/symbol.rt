@@ -4,6 +4,7 @@ ghost use Rattle.ht_clause18.specs.Carriers.{carriers};
 ghost use Rattle.ht_metric.specs.Rows.{no_sample};
 ghost use Rattle.ht_capture.specs.Numbers.{unsigned_at};
 ghost use Rattle.ht_rounding.specs.Loading.{IsWord};
+ghost use Rattle.ht_rounding.specs.Proposals.{AreSmall};
 ghost use Rattle.ht_legacy_blocks.specs.Jobs.{diagonals_of, grid_at, job_of, row_of, samples_of};
 
 use crate::grids::{constellation, pilot_point};
@@ -152,7 +153,8 @@ impl LegacySymbol {
     #[inline(always)]
     pub(crate) fn diagonals(&self, first: u8) -> u32x8
         requires { first + 8 ≤ carriers }
-        ensures { (k : ℕ) → k < 8 → slice_index result k ≡ slice_index_or self.now.diagonals (first + k) 0 }
+        ensures values { (k : ℕ) → k < 8 → slice_index result k ≡ slice_index_or self.now.diagonals (first + k) 0 }
+        ensures small { AreSmall result }
     {
         shorts(&self.diagonals, 2 * usize::from(first))
     }

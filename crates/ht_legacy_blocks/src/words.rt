@@ -1,5 +1,5 @@
 //! Numbers of eight subcarriers, loaded from octets into lanes.
-ghost use Rattle.std.specs.Prelude.{◌≡◌, ◌+◌, ◌*◌, ◌<◌, ◌≤◌, ℕ, drop, length, slice_index};
+ghost use Rattle.std.specs.Prelude.{◌≡◌, ◌+◌, ◌*◌, ◌^◌, ◌<◌, ◌≤◌, ℕ, drop, length, slice_index};
 ghost use Rattle.std.specs.Int.{cast_signed, w32};
 ghost use Rattle.byteorder.specs.Endian.{big_number};
 ghost use Rattle.ht_capture.specs.Numbers.{unsigned_at};
@@ -13,7 +13,8 @@ use std::simd::prelude::*;
 #[inline(always)]
 fn short(octets: &[u8], at: usize) -> u32
     requires { at + 2 ≤ length octets.now }
-    ensures { result ≡ unsigned_at octets.now at }
+    ensures value { result ≡ unsigned_at octets.now at }
+    ensures below { result < 2 ^ 16 }
 {
     u32::from(BigEndian::read_u16(&octets[at..]))
 }
@@ -22,7 +23,8 @@ fn short(octets: &[u8], at: usize) -> u32
 #[inline(always)]
 pub fn shorts(octets: &[u8], at: usize) -> u32x8
     requires { at + 16 ≤ length octets.now }
-    ensures { (k : ℕ) → k < 8 → slice_index result k ≡ unsigned_at octets.now (at + 2 * k) }
+    ensures values { (k : ℕ) → k < 8 → slice_index result k ≡ unsigned_at octets.now (at + 2 * k) }
+    ensures below { (k : ℕ) → k < 8 → slice_index result k < 2 ^ 16 }
 {
     let mut lanes = [0u32; 8];
     for k in 0..8 {

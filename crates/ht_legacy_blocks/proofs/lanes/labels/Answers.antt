@@ -6,5 +6,5 @@ pub returns-clause-labels : goal.returns-clause-labels
 returns-clause-labels c k lt sure =
     c.label_lanes.ensures.labels k _ lt sure
     (λ plain. in-lane c.args.modulation c.channel.result c.samples.result c.args.symbol.now k (c.args.first + k)
-    (c.plain_by.ensures.modulation k lt plain) (c.plain_by.ensures.plain k lt plain) (c.channel.ensures.first k lt)
+    (c.plain_by.ensures.modulation k lt plain) (c.plain_by.ensures.data k lt plain) (c.channel.ensures.first k lt)
     (c.samples.ensures.re k lt) (c.samples.ensures.im k lt))
