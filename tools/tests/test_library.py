@@ -57,8 +57,8 @@ def test_a_distance_of_66_bits_is_whole():
     channel, received = np.zeros((), library.CHANNEL), np.full((4, 2), -(2**31), np.int32)
     hit = library.nearest(Rate(40, 31), channel, received)
     assert library.distances(hit) == [2**65] and (hit["points"] == -7).all()
-    found = library.detect_symbols(Rate(40, 31), np.repeat(channel[None], 5), np.broadcast_to(received, (2, 5, 4, 2)))
-    assert library.distances(found.sums) == [5 * 2**65] * 2 and not found.labels.any()
+    found = library.detect_symbols(Rate(40, 31), np.repeat(channel[None], 3), np.broadcast_to(received, (1, 3, 4, 2)))
+    assert library.distances(found.sums) == [3 * 2**65] and not found.labels.any()
 
 
 @pytest.mark.parametrize("mcs", range(32))
