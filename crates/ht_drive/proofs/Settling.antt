@@ -62,11 +62,11 @@ all_delivered : (members : List Helper) → answered_by members ≡ flat_map (λ
 all_delivered [] = refl
 all_delivered (m ∷ members) = ap (λ (rest : List RunBlock). (answers_of m).pushed ++ rest) (all_delivered members)
 
-counted : (members : List Helper) → map (answered_weight task_of jobs_in) members ≡ map jobs_run (runs_by members)
-counted [] = refl
-counted (m ∷ members) =
+members_counted : (members : List Helper) → map (answered_weight task_of jobs_in) members ≡ map jobs_run (runs_by members)
+members_counted [] = refl
+members_counted (m ∷ members) =
     ap (λ (n : ℕ). n ∷ map (answered_weight task_of jobs_in) members) (weighed (answers_of m).pushed)
-    ∙ ap (λ (ns : List ℕ). jobs_run (answers_of m).pushed ∷ ns) (counted members)
+    ∙ ap (λ (ns : List ℕ). jobs_run (answers_of m).pushed ∷ ns) (members_counted members)
 
 -- their jobs add up to those of all blocks
 summed : (others : List (List RunBlock)) → sum (map jobs_run others) ≡ jobs_run (flat_map (λ (runs : List RunBlock). runs) others)
@@ -96,7 +96,7 @@ module _ (t : CallerCounts) (h : BlockCaller) (members : List Helper) (c : Close
     mine_answered = none_lacks h.taken;
     answered = sym (run.answers lacks) ∙ ap lacking run.received ∙ answered;
     numbers = run.numbers ∙ ap (λ (n : ℕ). n ∷ map (answered_weight task_of jobs_in) members) (weighed_all h.taken)
-        ∙ ap (λ (ns : List ℕ). jobs_run (answered_all h.taken) ∷ ns) (counted members);
+        ∙ ap (λ (ns : List ℕ). jobs_run (answered_all h.taken) ∷ ns) (members_counted members);
   }
 
   helped : jobs_run delivered ≡ sum (drop 1 c.ran.items)
